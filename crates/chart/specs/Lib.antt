@@ -1,0 +1,5 @@
+pub mod Players
+pub mod Arena
+pub mod Names
+pub mod Refusals
+pub mod DeadEnds
