@@ -1,3 +1,4 @@
+-- Walks: mapped, joined, and sorted by the sets that they stay in.
 use Rattle.walks.specs.Games.{Walk, last, step, Inside}
 use mathlib.Core.Logic.{_⊎_, inl, inr}
 use Prim.Native.Nat.{ℕ, _<_}
@@ -7,7 +8,7 @@ pub walk-map : {E F : ℕ → ℕ → Type 0} → ((p q : ℕ) → E p q → F p
 walk-map f (last e) = last (f _ _ e)
 walk-map f (step e w) = step (f _ _ e) (walk-map f w)
 
--- a rank that falls at each step falls along a way
+-- a rank that falls at each step falls along a walk
 pub walk-falls : {E : ℕ → ℕ → Type 0} (r : ℕ → ℕ) → ((p q : ℕ) → E p q → r q < r p) → {p q : ℕ} → Walk E p q → r q < r p
 walk-falls r f (last e) = f _ _ e
 walk-falls r f (step e w) = let a = f _ _ e in let b = walk-falls r f w in omega arith
