@@ -64,14 +64,15 @@ module _ (a : Arena) (v : ℕ) where
   pub moves-there : (m : ℕ) → m < degree-of a v → v < size a
   unfolding degree-of
   moves-there m h = elim (decLe (suc v) (size a))
-    [ yes k ↦ k | no k ↦ absurd (let e = row-past (omega arith) in let z : length (row a v .moves) ≡ 0 = ap (λ y. length (y .moves)) e in omega arith) ]
+      [ yes k ↦ k | no k ↦ absurd (let e = row-past (omega arith) in let z : length (row a v .moves) ≡ 0 = ap (λ y. length (y .moves)) e in omega arith) ]
 
 -- the ranges hold of every entry of the tables
 module _ (a : Arena) (r : Ranged a) (v : ℕ) where
-  row-ranged : RangedVertex (size a) (a .height) (row a v)
-  row-ranged = elim (decLe (suc v) (size a))
-    [ yes k ↦ all-getD (RangedVertex (size a) (a .height)) (a .vertices) v no-vertex k (r .vertices)
-    | no k ↦ subst (RangedVertex (size a) (a .height)) (sym (row-past a v (omega arith))) (record { owner = omega arith; colour = omega arith; few = omega arith; moves = tt }) ]
+  pub row-ranged : RangedVertex (size a) (a .height) (row a v)
+  row-ranged = elim (decLe (suc v) (size a)) [
+    | yes k ↦ all-getD (RangedVertex (size a) (a .height)) (a .vertices) v no-vertex k (r .vertices)
+    | no k ↦ subst (RangedVertex (size a) (a .height)) (sym (row-past a v (omega arith))) (record { owner = omega arith; colour = omega arith; few = omega arith; moves = tt })
+  ]
 
   pub owner-low : owner-of a v ≤ 1
   unfolding owner-of
@@ -94,6 +95,7 @@ module _ (a : Arena) (r : Ranged a) (v : ℕ) where
 
   pub cost-low : (m : ℕ) → cost-of a v m ≤ 10000
   unfolding cost-of
-  cost-low m = elim (decLe (suc m) (length (row a v .moves)))
-    [ yes k ↦ all-getD (RangedMove (size a)) (row a v .moves) m no-move k (row-ranged .moves) .cost
-    | no k ↦ let e : getD (row a v .moves) m no-move ≡ no-move = List·getD-eq-default (row a v .moves) no-move (omega arith) in rw (ap (λ z. z .cost) e) (omega arith) ]
+  cost-low m = elim (decLe (suc m) (length (row a v .moves))) [
+    | yes k ↦ all-getD (RangedMove (size a)) (row a v .moves) m no-move k (row-ranged .moves) .cost
+    | no k ↦ let e : getD (row a v .moves) m no-move ≡ no-move = List·getD-eq-default (row a v .moves) no-move (omega arith) in rw (ap (λ z. z .cost) e) (omega arith)
+  ]

@@ -50,18 +50,26 @@ pub record Once (xs : List ℕ) (p : ℕ) : Type 0 where
 
 once : (p : ℕ) (xs : List ℕ) → Once xs p ⊎ (tally (λ x. same x p) xs ≡ 0)
 once p [] = inr refl
-once p (x ∷ xs) = elim (ℕ-discrete x p)
-  [ yes e ↦ inl (record { before = []; after = xs; is = ap (λ y. y ∷ xs) e })
-  | no d ↦ elim (once p xs) [ inl o ↦ inl (record { before = x ∷ o .before; after = o .after; is = ap (λ y. x ∷ y) (o .is) })
-                            | inr z ↦ inr (let k = same-no x p d in omega arith) ] ]
+once p (x ∷ xs) = elim (ℕ-discrete x p) [
+  | yes e ↦ inl (record { before = []; after = xs; is = ap (λ y. y ∷ xs) e })
+  | no d ↦ elim (once p xs) [
+    | inl o ↦ inl (record { before = x ∷ o .before; after = o .after; is = ap (λ y. x ∷ y) (o .is) })
+    | inr z ↦ inr (let k = same-no x p d in omega arith)
+  ]
+]
 
 twice : (p : ℕ) (xs : List ℕ) → Twice xs p ⊎ (tally (λ x. same x p) xs ≤ 1)
 twice p [] = inr (omega arith)
-twice p (x ∷ xs) = elim (ℕ-discrete x p)
-  [ yes e ↦ elim (once p xs) [ inl o ↦ inl (record { before = []; between = o .before; after = o .after; is = ap (λ y. y ∷ xs) e ∙ ap (λ y. p ∷ y) (o .is) })
-                             | inr z ↦ inr (let k = same-yes x p e in omega arith) ]
-  | no d ↦ elim (twice p xs) [ inl o ↦ inl (record { before = x ∷ o .before; between = o .between; after = o .after; is = ap (λ y. x ∷ y) (o .is) })
-                             | inr z ↦ inr (let k = same-no x p d in omega arith) ] ]
+twice p (x ∷ xs) = elim (ℕ-discrete x p) [
+  | yes e ↦ elim (once p xs) [
+    | inl o ↦ inl (record { before = []; between = o .before; after = o .after; is = ap (λ y. y ∷ xs) e ∙ ap (λ y. p ∷ y) (o .is) })
+    | inr z ↦ inr (let k = same-yes x p e in omega arith)
+  ]
+  | no d ↦ elim (twice p xs) [
+    | inl o ↦ inl (record { before = x ∷ o .before; between = o .between; after = o .after; is = ap (λ y. x ∷ y) (o .is) })
+    | inr z ↦ inr (let k = same-no x p d in omega arith)
+  ]
+]
 
 pub tally-split : (f g h : ℕ → ℕ) → ((x : ℕ) → f x ≤ g x + h x) → (xs : List ℕ) → tally f xs ≤ tally g xs + tally h xs
 tally-split f g h le [] = omega arith
@@ -80,16 +88,19 @@ pub pigeons : (P : ℕ) (f : ℕ → ℕ) (xs : List ℕ) → ((x : ℕ) → f x
     ((p : ℕ) × (0 < f p) × Twice xs p) ⊎ (tally f xs ≤ P)
 pigeons zero f xs low a = inr (let h = tally-none f xs (all-weaker _ (λ x. f x ≡ 0) (λ x g. g (omega arith)) xs a) in omega arith)
 pigeons (suc P) f xs low a =
-  elim (pigeons P (λ x. f x - same x P) xs (λ x. let o = low x in omega arith)
-         (all-weaker _ (λ x. P ≤ x → f x - same x P ≡ 0) (λ x g h. elim (ℕ-discrete x P)
-           [ yes e ↦ let k = same-yes x P e in let o = low x in omega arith | no d ↦ let k = g (omega arith) in omega arith ]) xs a))
-    [ inl r ↦ inl (r .0, (let o = r .1 in omega arith), r .2)
-    | inr h ↦ elim (ℕ-discrete (f P) 0)
-        [ yes z ↦ inr (let k = tally-le f (λ x. f x - same x P) (λ x. elim (ℕ-discrete x P)
-                [ yes e ↦ let u : f x ≡ 0 = ap f e ∙ z in omega arith | no d ↦ let u = same-no x P d in omega arith ]) xs in omega arith)
-        | no p ↦ elim (twice P xs)
-            [ inl t ↦ inl (P, omega arith, t)
-            | inr t ↦ inr (let k = tally-split f (λ x. f x - same x P) (λ x. same x P) (λ x. omega arith) xs in omega arith) ] ] ]
+    elim (pigeons P (λ x. f x - same x P) xs (λ x. let o = low x in omega arith)
+    (all-weaker _ (λ x. P ≤ x → f x - same x P ≡ 0) (λ x g h. elim (ℕ-discrete x P)
+    [ yes e ↦ let k = same-yes x P e in let o = low x in omega arith | no d ↦ let k = g (omega arith) in omega arith ]) xs a)) [
+      | inl r ↦ inl (r .0, (let o = r .1 in omega arith), r .2)
+      | inr h ↦ elim (ℕ-discrete (f P) 0) [
+        | yes z ↦ inr (let k = tally-le f (λ x. f x - same x P) (λ x. elim (ℕ-discrete x P)
+            [ yes e ↦ let u : f x ≡ 0 = ap f e ∙ z in omega arith | no d ↦ let u = same-no x P d in omega arith ]) xs in omega arith)
+        | no p ↦ elim (twice P xs) [
+          | inl t ↦ inl (P, omega arith, t)
+          | inr t ↦ inr (let k = tally-split f (λ x. f x - same x P) (λ x. same x P) (λ x. omega arith) xs in omega arith)
+        ]
+      ]
+    ]
 
 module _ (E : ℕ → ℕ → Type 0) where
   pub chain-back : (xs ys : List ℕ) → Chain E (xs ++ ys) → Chain E ys
@@ -115,28 +126,45 @@ all-back Q (x ∷ xs) ys a = all-back Q xs ys (a .1)
 
 module _ (colour : ℕ → ℕ) (K : ℕ) where
   shown-back : (xs ys : List ℕ) → Shows colour K ys → Shows colour K (xs ++ ys)
-  shown-back xs ys w = record { shown = w .shown; odd = w .odd; before = xs ++ w .before; part = w .part; after = w .after
-    ; is = ap (λ z. xs ++ z) (w .is) ∙ sym (append-assoc xs (w .before) _); under = w .under; often = w .often }
+  shown-back xs ys w = record {
+    shown = w .shown;
+    odd = w .odd;
+    before = xs ++ w .before;
+    part = w .part;
+    after = w .after;
+    is = ap (λ z. xs ++ z) (w .is) ∙ sym (append-assoc xs (w .before) _);
+    under = w .under;
+    often = w .often;
+  }
 
   shown-front : (xs ys : List ℕ) → Shows colour K xs → Shows colour K (xs ++ ys)
-  shown-front xs ys w = record { shown = w .shown; odd = w .odd; before = w .before; part = w .part; after = w .after ++ ys
-    ; is = ap (λ z. z ++ ys) (w .is) ∙ simp append-assoc; under = w .under; often = w .often }
+  shown-front xs ys w = record {
+    shown = w .shown;
+    odd = w .odd;
+    before = w .before;
+    part = w .part;
+    after = w .after ++ ys;
+    is = ap (λ z. z ++ ys) (w .is) ∙ simp append-assoc;
+    under = w .under;
+    often = w .often;
+  }
 
 -- the highest colour of a chain is shown at most P times, unless on a loop
 pub few-shown : (E : ℕ → ℕ → Type 0) (colour : ℕ → ℕ) (P c : ℕ) (xs : List ℕ) → ((p : ℕ) → colour p ≡ c → ¬ Loop colour E p) →
     Chain E xs → All (λ x. x < P) xs → All (λ x. colour x ≤ c) xs → tally (λ x. same (colour x) c) xs ≤ P
 few-shown E colour P c xs fair ch low under =
-  elim (pigeons P (λ x. same (colour x) c) xs (λ x. same-le (colour x) c)
-         (all-weaker _ (λ x. P ≤ x → same (colour x) c ≡ 0) (λ x h k. absurd (omega arith)) xs low))
-    [ inl r ↦
-        let p : ℕ = r .0 in
-        let t : Twice xs p = r .2 in
-        let e : colour p ≡ c = same-at (colour p) c (r .1) in
-        let ys : List ℕ = p ∷ (t .between ++ (p ∷ t .after)) in
-        absurd (fair p e (chain-walk E (λ x. colour x ≤ colour p) p p (t .between) (t .after)
+    elim (pigeons P (λ x. same (colour x) c) xs (λ x. same-le (colour x) c)
+    (all-weaker _ (λ x. P ≤ x → same (colour x) c ≡ 0) (λ x h k. absurd (omega arith)) xs low)) [
+      | inl r ↦
+          let p : ℕ = r .0 in
+          let t : Twice xs p = r .2 in
+          let e : colour p ≡ c = same-at (colour p) c (r .1) in
+          let ys : List ℕ = p ∷ (t .between ++ (p ∷ t .after)) in
+          absurd (fair p e (chain-walk E (λ x. colour x ≤ colour p) p p (t .between) (t .after)
           (chain-back E (t .before) ys (subst (Chain E) (t .is) ch))
           (all-weaker _ (λ x. colour x ≤ colour p) (λ x (h : colour x ≤ c). omega arith) ys (all-back _ (t .before) ys (subst (All (λ x. colour x ≤ c)) (t .is) under)))))
-    | inr h ↦ h ]
+      | inr h ↦ h
+    ]
 
 -- where no even position is on a loop with no higher colour, every walk of a computed length shows an odd colour more than K times
 module _ (E : ℕ → ℕ → Type 0) (colour : ℕ → ℕ) (P K : ℕ) (fair : (p : ℕ) → colour p % 2 ≡ 0 → ¬ Loop colour E p) where
@@ -150,33 +178,41 @@ module _ (E : ℕ → ℕ → Type 0) (colour : ℕ → ℕ) (P K : ℕ) (fair :
         (length pre + length xs ≤ tally (λ x. same (colour x) c) xs + (tally (λ x. same (colour x) c) xs + 1) * limit N c)
     unfolding Short
     runs pre [] ch a b = elim (ih pre (chain-front E pre [] ch) a) [ inl w ↦ inl (shown-front colour K pre [] w) | inr h ↦ inr (omega arith) ]
-    runs pre (x ∷ xs) ch a b = elim (ℕ-discrete (colour x) c)
-      [ yes e ↦ elim (ih pre (chain-front E pre _ ch) a)
-          [ inl w ↦ inl (shown-front colour K pre _ w)
-          | inr h ↦ elim (runs [] xs (chain-back E pre _ ch .1) tt (b .1))
-              [ inl w ↦ inl (shown-back colour K pre _ (shown-back colour K (x ∷ []) xs w))
-              | inr k ↦ inr (let u = same-yes (colour x) c e in rw u (omega arith)) ] ]
-      | no d ↦ elim (runs (pre ++ (x ∷ [])) xs (rw append-assoc ch) (all-push _ pre x a (b .0 .0, omega arith)) (b .1))
-          [ inl w ↦ inl (rw append-assoc at w)
-          | inr k ↦ inr (let u = same-no (colour x) c d in let v = length-append pre (x ∷ []) in rw u (omega arith)) ] ]
+    runs pre (x ∷ xs) ch a b = elim (ℕ-discrete (colour x) c) [
+      | yes e ↦ elim (ih pre (chain-front E pre _ ch) a) [
+        | inl w ↦ inl (shown-front colour K pre _ w)
+        | inr h ↦ elim (runs [] xs (chain-back E pre _ ch .1) tt (b .1)) [
+          | inl w ↦ inl (shown-back colour K pre _ (shown-back colour K (x ∷ []) xs w))
+          | inr k ↦ inr (let u = same-yes (colour x) c e in rw u (omega arith))
+        ]
+      ]
+      | no d ↦ elim (runs (pre ++ (x ∷ [])) xs (rw append-assoc ch) (all-push _ pre x a (b .0 .0, omega arith)) (b .1)) [
+        | inl w ↦ inl (rw append-assoc at w)
+        | inr k ↦ inr (let u = same-no (colour x) c d in let v = length-append pre (x ∷ []) in rw u (omega arith))
+      ]
+    ]
 
   short : (N : ℕ) → P ≤ N → K ≤ N → (c : ℕ) → Short N c
   unfolding Short
   short N hp hk zero [] ch a = inr (omega arith)
   short N hp hk zero (x ∷ xs) ch a = absurd (omega arith)
   short N hp hk (suc c) xs ch a =
-    let t : ℕ = tally (λ x. same (colour x) c) xs in
-    let under : All (λ x. colour x ≤ c) xs = all-weaker _ (λ x. colour x ≤ c) (λ x (h : (x < P) × (colour x < suc c)). omega arith) xs a in
-    let few : Shows colour K xs ⊎ (t ≤ N) = elim (ℕ-discrete (c % 2) 0)
-          [ yes e ↦ inr (let h = few-shown E colour P c xs (λ p q. fair p (ap (λ x. x % 2) q ∙ e)) ch (all-weaker _ (λ x. x < P) (λ x (h : (x < P) × (colour x < suc c)). h .0) xs a) under in omega arith)
-          | no o ↦ elim (decLe t K)
-              [ yes h ↦ inr (omega arith)
-              | no h ↦ inl (record { shown = c; odd = omega arith; before = []; part = xs; after = []; is = sym (append-nil xs); under = under; often = omega arith }) ] ] in
-    elim few
-      [ inl w ↦ inl w
-      | inr h ↦ elim (runs N c (short N hp hk c) [] xs ch tt a)
-          [ inl w ↦ inl w
-          | inr k ↦ inr (let m = mul-le-mul-right (limit N c) h in omega arith) ] ]
+      let t : ℕ = tally (λ x. same (colour x) c) xs in
+      let under : All (λ x. colour x ≤ c) xs = all-weaker _ (λ x. colour x ≤ c) (λ x (h : (x < P) × (colour x < suc c)). omega arith) xs a in
+      let few : Shows colour K xs ⊎ (t ≤ N) = elim (ℕ-discrete (c % 2) 0) [
+        | yes e ↦ inr (let h = few-shown E colour P c xs (λ p q. fair p (ap (λ x. x % 2) q ∙ e)) ch (all-weaker _ (λ x. x < P) (λ x (h : (x < P) × (colour x < suc c)). h .0) xs a) under in omega arith)
+        | no o ↦ elim (decLe t K) [
+          | yes h ↦ inr (omega arith)
+          | no h ↦ inl (record { shown = c; odd = omega arith; before = []; part = xs; after = []; is = sym (append-nil xs); under = under; often = omega arith })
+        ]
+      ] in
+      elim few [
+        | inl w ↦ inl w
+        | inr h ↦ elim (runs N c (short N hp hk c) [] xs ch tt a) [
+          | inl w ↦ inl w
+          | inr k ↦ inr (let m = mul-le-mul-right (limit N c) h in omega arith)
+        ]
+      ]
 
   pub long-walks : (c : ℕ) (xs : List ℕ) → Chain E xs → All (λ x. (x < P) × (colour x < c)) xs → limit (P + K) c < length xs → Shows colour K xs
   unfolding Short
