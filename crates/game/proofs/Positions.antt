@@ -39,6 +39,9 @@ arrive-top l k h a b e = grind arith
 pub toll-cases : (x : ℕ) → ((x ≡ 0) × (toll x ≡ 0)) ⊎ ((0 < x) × (toll x ≡ 1))
 toll-cases x = elim (ℕ-discrete x 0) [ yes e ↦ inl (e, grind arith) | no d ↦ inr (omega arith, grind arith) ]
 
+pub toll-paid : (x : ℕ) → 0 < x → toll x ≡ 1
+toll-paid x h = grind arith
+
 pub toll-low : (x : ℕ) → toll x ≤ 1
 toll-low x = grind arith
 
