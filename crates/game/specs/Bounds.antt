@@ -21,8 +21,8 @@ longest a s q zero v = 0
 longest a s q (suc k) v =
     greatest-of (allowed a s v) (λ m. cost-of a v m + cond (answers a q (target-of a v m)) 0 (longest a s q k (target-of a v m))) (degree-of a v)
 
--- The greatest wait over the voyages under s from marked vertices, of less than n moves after each request; n is the
--- number of vertices.
+-- The greatest wait over the voyages under s from marked vertices, of at most as many moves after a request as there
+-- are vertices: where the plan is safe, longer voyages wait no longer.
 abbrev pub greatest-wait : Arena → (ℕ → Bool) → (ℕ → ℕ) → ℕ
 greatest-wait a marked s =
     greatest-of (λ v. marked v && requests a v) (λ v. longest a s (colour-of a v) (size a) v) (size a)
