@@ -1,10 +1,24 @@
--- The greatest wait under a standing plan, worked out move by move.
+-- The greatest wait under a standing plan, and how to work it out move by move.
+use mathlib.Core.Path.{_≡_}
 use mathlib.Core.Bool.{Bool, true, cond, _&&_}
+use mathlib.Core.List.{List}
 use Prim.Native.Nat.{ℕ, zero, suc, _+_, _≤_, _<_, max}
 use lib.Dec.{eqb}
 use Rattle.chart.specs.Arena.{Arena, size}
 use Rattle.game.specs.Reading.{owner-of, colour-of, degree-of, target-of, cost-of}
-use Rattle.game.specs.Voyages.{requests, answers}
+use Rattle.game.specs.Voyages.{Voyage, requests, answers, worst-wait}
+use Rattle.game.specs.Held.{standing, Follows}
+
+-- A voyage from v by the moves ms, under the standing plan s.
+abbrev pub Under : Arena → (ℕ → ℕ) → ℕ → List ℕ → Type 0
+Under a s v ms = Voyage a v ms × Follows a (standing a s v) v ms
+
+-- w is the worst wait over all voyages under s from marked vertices: none passes it and, if there are marks, one
+-- has it; it is 0 without marks.
+pub record GreatestWait (a : Arena) (Marked : ℕ → Type 0) (s : ℕ → ℕ) (w : ℕ) : Type 0 where
+  pub over : (v : ℕ) (ms : List ℕ) → Marked v → Under a s v ms → worst-wait a v ms ≤ w
+  pub met : (v : ℕ) → Marked v → (u : ℕ) × (ms : List ℕ) × Marked u × Under a s u ms × (worst-wait a u ms ≡ w)
+  pub none : ((v : ℕ) → ¬ Marked v) → w ≡ 0
 
 -- The greatest f m over the numbers m below n that pass, 0 for none.
 abbrev pub greatest-of : (ℕ → Bool) → (ℕ → ℕ) → ℕ → ℕ

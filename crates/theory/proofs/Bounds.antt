@@ -5,7 +5,7 @@ use Rattle.game.specs.Reading.{owner-of, colour-of, degree-of, target-of, cost-
 use Rattle.game.specs.Voyages.{Voyage, reached, passed, requests, answers, wait, wait-at, worst-wait}
 use Rattle.game.specs.Held.{Plan, standing, Follows, Held}
 use Rattle.game.specs.Claims.{PlanStep, SafePlan}
-use Rattle.game.specs.Bounds.{greatest-of, allowed, longest, greatest-wait, greatest-cost}
+use Rattle.game.specs.Bounds.{Under, GreatestWait, greatest-of, allowed, longest, greatest-wait, greatest-cost}
 use Rattle.game.proofs.Readings.{moves-there}
 use Rattle.theory.specs.Sailing.{Sails}
 use Rattle.theory.proofs.Greatest.{greatest-over, greatest-met, greatest-none}
@@ -130,3 +130,66 @@ module _ (a : Arena) (r : Ranged a) (Marked : ℕ → Type 0) (s : ℕ → ℕ) 
         waits = λ ms f g. worst-low v ms mk (sails a s v ms f g);
         shows = λ ms f g. few-showings a r Marked s safe v ms mk (sails a s v ms f g);
       }
+
+-- there is one such number
+pub greatest-wait-one : (a : Arena) (marked : ℕ → Bool) (s : ℕ → ℕ) (x y : ℕ) →
+    GreatestWait a (λ v. marked v ≡ true) s x → GreatestWait a (λ v. marked v ≡ true) s y → (v : ℕ) → marked v ≡ true → x ≡ y
+greatest-wait-one a marked s x y g h v m =
+    let p = g .met v m in
+    let q = h .met v m in
+    let i = h .over (p .0) (p .1) (p .2) (p .3) in
+    let j = g .over (q .0) (q .1) (q .2) (q .3) in
+    let e = p .4 in
+    let f = q .4 in
+    omega arith
+
+-- the number worked out move by move is the greatest wait
+module _ (a : Arena) (r : Ranged a) (marked : ℕ → Bool) (s : ℕ → ℕ) (safe : SafePlan a (λ v. marked v ≡ true) s) where
+  abbrev asks : ℕ → Bool
+  asks v = marked v && requests a v
+
+  abbrev most : ℕ → ℕ
+  most v = longest a s (colour-of a v) (size a) v
+
+  asks-is : (v : ℕ) → marked v ≡ true → colour-of a v % 2 ≡ 1 → asks v ≡ true
+  asks-is v m o = let e : requests a v ≡ true = grind arith in rw (m, e)
+
+  asks-back : (v : ℕ) → asks v ≡ true → (marked v ≡ true) × (colour-of a v % 2 ≡ 1)
+  asks-back v t = (go (marked v) refl, elim (ℕ-discrete (colour-of a v % 2) 1) [ yes e ↦ e | no d ↦ absurd (odd d) ])
+    where
+      go : (b : Bool) → marked v ≡ b → b ≡ true
+      go true e = refl
+      go false e = absurd (let k : false ≡ true = rw e at t in let z : _≡_ {A = ℕ} 0 1 = cc in omega arith)
+
+      odd : ¬ (colour-of a v % 2 ≡ 1) → ⊥
+      odd d = let e : requests a v ≡ false = grind arith in let m : marked v ≡ true = go (marked v) refl in let k : false ≡ true = rw (m, e) at t in let z : _≡_ {A = ℕ} 0 1 = cc in omega arith
+
+  waits-over : (v : ℕ) (ms : List ℕ) → marked v ≡ true → colour-of a v % 2 ≡ 1 → Sails a s v ms → wait a (colour-of a v) v ms ≤ greatest-wait a marked s
+  waits-over v ms m o f =
+      let x = short a r (λ v. marked v ≡ true) s safe v m o ms f in
+      let h = longest-over a s (colour-of a v) (size a) v (x .moves) (let k = x .short in omega arith) (x .sails) in
+      let g = greatest-over asks most (size a) v (safe .there v m) (asks-is v m o) in
+      let e = x .waits in
+      omega arith
+
+  worst-under : (v : ℕ) (ms : List ℕ) → marked v ≡ true → Under a s v ms → worst-wait a v ms ≤ greatest-wait a marked s
+  worst-under v ms m f = worst-within a r (λ v. marked v ≡ true) s safe (greatest-wait a marked s) waits-over v ms m (sails a s v ms (f .0) (f .1))
+
+  worst-met : (v : ℕ) → marked v ≡ true → (u : ℕ) × (ms : List ℕ) × (marked u ≡ true) × Under a s u ms × (worst-wait a u ms ≡ greatest-wait a marked s)
+  worst-met v m = elim (greatest-met asks most (size a)) [
+    | inl z ↦ (v, [], m, (tt, tt), (let h = worst-under v [] m (tt, tt) in omega arith))
+    | inr t ↦
+        let u : ℕ = t .0 in
+        let b = asks-back u (t .2) in
+        let x = longest-met a s (colour-of a u) (size a) u in
+        let f : Under a s u (x .moves) = (sails-voyage a s u (x .moves) (x .sails), sails-follows a s u (x .moves) (x .sails)) in
+        let h = worst-under u (x .moves) (b .0) f in
+        let k = worst-over a u (x .moves) in
+        let e = wait-asked a u (x .moves) (b .1) in
+        let w = x .waits in
+        let g = t .3 in
+        (u, x .moves, b .0, f, omega arith)
+  ]
+
+  pub greatest-wait-is : GreatestWait a (λ v. marked v ≡ true) s (greatest-wait a marked s)
+  greatest-wait-is = record { over = worst-under; met = worst-met; none = λ n. greatest-none asks most (size a) (λ v h t. absurd (n v (asks-back v t .0))) }
