@@ -1,2 +1,5 @@
 pub mod Walks
 pub mod Keeping
+pub mod Long
+pub mod Attractors
+pub mod Determined

@@ -1,0 +1,6 @@
+pub mod Lifting
+pub mod Plans
+pub mod Sailing
+pub mod Waits
+pub mod Greatest
+pub mod Bounds

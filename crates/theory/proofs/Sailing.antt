@@ -1,0 +1,97 @@
+-- Voyages put together and taken apart, and their waits.
+use Rattle.chart.specs.Arena.{Arena}
+use Rattle.game.specs.Reading.{owner-of, colour-of, degree-of, target-of, cost-of}
+use Rattle.game.specs.Voyages.{Voyage, reached, passed, answers, wait, wait-at, worst-wait, unanswered, requests}
+use Rattle.game.specs.Held.{Plan, standing, Follows}
+use Rattle.theory.specs.Sailing.{Sails}
+use mathlib.Core.Path.{_≡_, refl, sym, subst, ap, _∙_}
+use mathlib.Core.Bool.{Bool, true, false, cond, _&&_, not}
+use mathlib.Core.Logic.{_⊎_, inl, inr}
+use mathlib.Core.List.{List, [], _∷_, _++_}
+use Prim.Native.Nat.{ℕ, zero, suc, _+_, _%_, _≤_, _<_, max}
+use native.Mathlib.Omega.{arith}
+use lib.Dec.{eqb, ltb}
+use lib.ListN.{length, length-append}
+
+module _ (a : Arena) where
+  pub reached-join : (v : ℕ) (xs ys : List ℕ) → reached a v (xs ++ ys) ≡ reached a (reached a v xs) ys
+  reached-join v [] ys = refl
+  reached-join v (x ∷ xs) ys = reached-join (target-of a v x) xs ys
+
+  pub passed-long : (v : ℕ) (ms : List ℕ) → length (passed a v ms) ≡ suc (length ms)
+  passed-long v [] = refl
+  passed-long v (m ∷ ms) = ap suc (passed-long (target-of a v m) ms)
+
+  -- a voyage that is followed by one more move
+  pub voyage-push : (v : ℕ) (ms : List ℕ) (m : ℕ) → Voyage a v ms → m < degree-of a (reached a v ms) → Voyage a v (ms ++ (m ∷ []))
+  voyage-push v [] m f h = (h, tt)
+  voyage-push v (n ∷ ms) m f h = (f .0, voyage-push (target-of a v n) ms m (f .1) h)
+
+  pub follows-push : (plan : Plan) (v : ℕ) (ms : List ℕ) (m : ℕ) → Follows a plan v ms →
+      (owner-of a (reached a v ms) ≡ 0 → m ≡ plan ms) → Follows a plan v (ms ++ (m ∷ []))
+  follows-push plan v [] m f e = (e, tt)
+  follows-push plan v (n ∷ ms) m f e = (f .0, follows-push (λ past. plan (n ∷ past)) (target-of a v n) ms m (f .1) e)
+
+  module _ (s : ℕ → ℕ) where
+    pub sails : (v : ℕ) (ms : List ℕ) → Voyage a v ms → Follows a (standing a s v) v ms → Sails a s v ms
+    sails v [] f g = tt
+    sails v (m ∷ ms) f g = (f .0, g .0, sails (target-of a v m) ms (f .1) (g .1))
+
+    pub sails-voyage : (v : ℕ) (ms : List ℕ) → Sails a s v ms → Voyage a v ms
+    sails-voyage v [] f = tt
+    sails-voyage v (m ∷ ms) f = (f .0, sails-voyage (target-of a v m) ms (f .2))
+
+    pub sails-follows : (v : ℕ) (ms : List ℕ) → Sails a s v ms → Follows a (standing a s v) v ms
+    sails-follows v [] f = tt
+    sails-follows v (m ∷ ms) f = (f .1, sails-follows (target-of a v m) ms (f .2))
+
+    pub sails-join : (v : ℕ) (xs ys : List ℕ) → Sails a s v xs → Sails a s (reached a v xs) ys → Sails a s v (xs ++ ys)
+    sails-join v [] ys f g = g
+    sails-join v (x ∷ xs) ys f g = (f .0, f .1, sails-join (target-of a v x) xs ys (f .2) g)
+
+    pub sails-apart : (v : ℕ) (xs ys : List ℕ) → Sails a s v (xs ++ ys) → Sails a s v xs × Sails a s (reached a v xs) ys
+    sails-apart v [] ys f = (tt, f)
+    sails-apart v (x ∷ xs) ys f = let r = sails-apart (target-of a v x) xs ys (f .2) in ((f .0, f .1, r .0), r .1)
+
+  -- where a vertex passed splits the voyage
+  pub record Stop (v : ℕ) (ms : List ℕ) (p : ℕ) (before rest : List ℕ) : Type 0 where
+    pub front : List ℕ
+    pub back : List ℕ
+    pub is : ms ≡ front ++ back
+    pub long : length front ≡ length before
+    pub there : reached a v front ≡ p
+    pub on : passed a p back ≡ p ∷ rest
+
+  pub stop : (v : ℕ) (ms : List ℕ) (p : ℕ) (before rest : List ℕ) → passed a v ms ≡ before ++ (p ∷ rest) → Stop v ms p before rest
+  stop v [] p [] rest e = let h : v ≡ p = cc in record { front = []; back = []; is = refl; long = refl; there = h; on = ap (λ x. x ∷ []) (sym h) ∙ e }
+  stop v (m ∷ ms) p [] rest e = let h : v ≡ p = cc in record { front = []; back = m ∷ ms; is = refl; long = refl; there = h; on = subst (λ x. passed a x (m ∷ ms) ≡ p ∷ rest) h e }
+  stop v [] p (x ∷ before) rest e = absurd (let h : _≡_ {A = ℕ} 1 (length (x ∷ (before ++ (p ∷ rest)))) = ap length e in let k = length-append before (p ∷ rest) in omega arith)
+  stop v (m ∷ ms) p (x ∷ before) rest e =
+      let t : passed a (target-of a v m) ms ≡ before ++ (p ∷ rest) = cc in
+      let r = stop (target-of a v m) ms p before rest t in
+      record { front = m ∷ r .front; back = r .back; is = ap (λ z. m ∷ z) (r .is); long = ap suc (r .long); there = r .there; on = r .on }
+
+  both : (x y : Bool) → (not x && y) ≡ true → (x ≡ false) × (y ≡ true)
+  both true y e = absurd (let z : _≡_ {A = ℕ} 0 1 = cc in omega arith)
+  both false y e = (refl, e)
+
+  -- a request of the colour q
+  module _ (q : ℕ) where
+    pub unanswered-first : (v m : ℕ) (ms : List ℕ) → unanswered a q v (m ∷ ms) ≡ true → (answers a q (target-of a v m) ≡ false) × (unanswered a q (target-of a v m) ms ≡ true)
+    unanswered-first v m ms e = both (answers a q (target-of a v m)) (unanswered a q (target-of a v m) ms) e
+
+    wait-on : (b c : Bool) (x y z : ℕ) → x + cond b 0 (y + cond c z 0) ≡ x + cond b 0 y + cond (not b && c) z 0
+    wait-on true c x y z = omega arith
+    wait-on false c x y z = omega arith
+
+    pub wait-join : (v : ℕ) (xs ys : List ℕ) → wait a q v (xs ++ ys) ≡ wait a q v xs + cond (unanswered a q v xs) (wait a q (reached a v xs) ys) 0
+    wait-join v [] ys = omega arith
+    wait-join v (x ∷ xs) ys =
+        let y : ℕ = target-of a v x in
+        ap (λ w. cost-of a v x + cond (answers a q y) 0 w) (wait-join y xs ys)
+        ∙ wait-on (answers a q y) (unanswered a q y xs) (cost-of a v x) (wait a q y xs) (wait a q (reached a y xs) ys)
+
+    -- what is not answered ends at no answer
+    pub open-end : (v : ℕ) (xs : List ℕ) → answers a q v ≡ false → unanswered a q v xs ≡ true → answers a q (reached a v xs) ≡ false
+    open-end v [] n e = n
+    open-end v (x ∷ xs) n e = let r = unanswered-first v x xs e in open-end (target-of a v x) xs (r .0) (r .1)
