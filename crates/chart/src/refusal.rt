@@ -12,6 +12,9 @@ pub enum Refusal {
     CostTooHigh,
     TooManyMoves,
     AbsentMove,
+    /// The line, counted from 1.
+    WrongLine(usize),
+    ShortBuffer,
 }
 
 impl Refusal {
@@ -27,6 +30,8 @@ impl Refusal {
             Refusal::CostTooHigh => 5,
             Refusal::TooManyMoves => 6,
             Refusal::AbsentMove => 7,
+            Refusal::WrongLine(_) => 23,
+            Refusal::ShortBuffer => 24,
         }
     }
 
@@ -42,6 +47,8 @@ impl Refusal {
             Refusal::CostTooHigh => 0,
             Refusal::TooManyMoves => 0,
             Refusal::AbsentMove => 0,
+            Refusal::WrongLine(line) => line,
+            Refusal::ShortBuffer => 0,
         }
     }
 }

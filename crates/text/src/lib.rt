@@ -1,0 +1,10 @@
+mod lines;
+pub mod misread;
+pub mod reading;
+mod tokens;
+pub mod writing;
+
+pub use misread::Misread;
+pub use misread::MisreadDebug;
+pub use misread::MisreadPartialEq;
+pub use reading::read;
