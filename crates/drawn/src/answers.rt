@@ -1,10 +1,21 @@
+ghost use mathlib.Core.Path.{_≡_};
 ghost use Rattle.chart.specs.Arena.{size};
+ghost use Rattle.drawn.specs.Rules.{move-count};
 ghost use Rattle.drawn.specs.Meaning.{sheet, itself};
 use super::limits::HEIGHT;
 use super::sheet::Drawn;
 use chart::Chart;
 use chart::Move;
 use chart::Player;
+
+impl Drawn {
+    /// How many moves stand in the chart.
+    pub fn move_count(&self) -> usize
+        ensures { λ r. ⌜ r ≡ move-count (sheet (now (self .entry)) .vertices) ⌝ }
+    {
+        self.used
+    }
+}
 
 pub impl Chart for Drawn as DrawnChart {
     type Name = usize;

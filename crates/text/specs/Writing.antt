@@ -4,7 +4,7 @@ use mathlib.Core.Bool.{cond}
 use mathlib.Core.List.{List, [], _∷_, _++_, map}
 use Prim.Native.Nat.{ℕ, suc, _+_, _≤_}
 use lib.Dec.{leb}
-use lib.ListN.{length, drop}
+use lib.ListN.{length, drop, getD}
 use Rattle.std.specs.shelf.Lists.{joined}
 use Rattle.chart.specs.declared.parts.Move.{Move}
 use Rattle.chart.specs.Arena.{Arena, Vertex, size}
@@ -28,6 +28,13 @@ lines-of a = vertices (size a) ∷ (map vertex-line (a .vertices) ++ (moves (mov
 
 abbrev pub text-of : Arena → List ℕ
 text-of a = joined spelt (lines-of a)
+
+-- The vertex of a number, and a move of it; one without colour, moves, target or cost past the ends.
+abbrev pub vertex-or-none : Arena → ℕ → Vertex
+vertex-or-none a v = getD (a .vertices) v (record { owner = 0; colour = 0; moves = [] })
+
+abbrev pub move-or-none : Arena → ℕ → ℕ → Move
+move-or-none a v i = getD (vertex-or-none a v .moves) i (record { target = 0; cost = 0 })
 
 -- What write answers: how many bytes the text has, or refused where the room is less.
 abbrev pub write-outcome : Arena → ℕ → Outcome ℕ

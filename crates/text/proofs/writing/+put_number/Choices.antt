@@ -1,4 +1,4 @@
 use Rattle.text.proofs.writing.+put_number.Given as given
 
-abbrev pub μ-put_number : given.MeasureT-put_number
-μ-put_number l = l .number
+abbrev pub μ-put-number : given.MeasureT-put-number
+μ-put-number l = l .number
