@@ -11,8 +11,7 @@ use Rattle.std.specs.shelf.Maps.{nth}
 use Rattle.std.specs.Options.{valueOr}
 use Rattle.std.specs.shelf.Lists.{All}
 use Rattle.std.proofs.shelf.Elements.{all-weaker}
-use Rattle.chart.specs.declared.parts.Move.{Move}
-use Rattle.chart.specs.Arena.{Arena, Vertex, Ranged, RangedVertex, RangedMove, size, and-then}
+use Rattle.chart.specs.Arena.{Arena, Ranged, RangedVertex, RangedMove, size, and-then}
 use Rattle.text.specs.Writing.{vertex-or-none, move-or-none}
 
 mapped-same : {A : Type 0} (o : Option A) → mapped (λ z. z) o ≡ o
@@ -56,11 +55,11 @@ all-or-none P (x ∷ xs) (suc i) d none all = all-or-none P xs i d none (all .1)
 module _ (a : Arena) (ranged : Ranged a) where
   pub vertex-ranged : (v : ℕ) → RangedVertex (size a) (a .height) (vertex-or-none a v)
   vertex-ranged v = all-or-none (RangedVertex (size a) (a .height)) (a .vertices) v (record { owner = 0; colour = 0; moves = [] })
-    (record { owner = omega arith; colour = omega arith; few = omega arith; moves = tt }) (ranged .vertices)
+      (record { owner = omega arith; colour = omega arith; few = omega arith; moves = tt }) (ranged .vertices)
 
   pub vertex-small : (v : ℕ) → (vertex-or-none a v .owner < 100000) × (vertex-or-none a v .colour < 100000)
   vertex-small v = (omega (arith, vertex-ranged v .owner), omega (arith, vertex-ranged v .colour, ranged .low))
 
   pub move-small : (v i : ℕ) → (move-or-none a v i .target < 100000) × (move-or-none a v i .cost < 100000)
   move-small v i = all-or-none (λ m. (m .target < 100000) × (m .cost < 100000)) (vertex-or-none a v .moves) i (record { target = 0; cost = 0 }) (omega arith, omega arith)
-    (all-weaker (RangedMove (size a)) (λ m. (m .target < 100000) × (m .cost < 100000)) (λ m r. (omega (arith, r .target, ranged .few), omega (arith, r .cost))) (vertex-or-none a v .moves) (vertex-ranged v .moves))
+      (all-weaker (RangedMove (size a)) (λ m. (m .target < 100000) × (m .cost < 100000)) (λ m r. (omega (arith, r .target, ranged .few), omega (arith, r .cost))) (vertex-or-none a v .moves) (vertex-ranged v .moves))

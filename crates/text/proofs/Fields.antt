@@ -3,12 +3,11 @@ use mathlib.Core.Path.{_≡_, refl, sym, ap, _∙_}
 use mathlib.Core.Bool.{false}
 use mathlib.Core.List.{List, [], _∷_, _++_, append-assoc}
 use Prim.Native.Nat.{ℕ, _<_}
-use native.Mathlib.Omega.{arith}
 use lib.Chars.{codes}
 use Rattle.std.specs.Text.{asciiDigit}
 use Rattle.std.specs.Written.{decimal}
 use Rattle.std.proofs.shelf.Lists.{append-cancel-left}
-use Rattle.text.specs.Lines.{Line, vertices, vertex, moves, move, spelt}
+use Rattle.text.specs.Lines.{vertices, vertex, moves, move, spelt}
 use Rattle.text.specs.Tokens.{Numbered, Fielded, Counted, Lined}
 use Rattle.text.proofs.Numerals.{one-number}
 

@@ -3,3 +3,6 @@ pub mod Fields
 pub mod Steps
 pub mod Putting
 pub mod Absent
+pub mod OneWay
+pub mod ReadBack
+pub mod WrittenBack

@@ -1,6 +1,6 @@
 -- Numbers at the front of some bytes: where their digits end, and that one number only stands there.
 use mathlib.Core.Path.{_≡_, refl, sym, ap, _∙_}
-use mathlib.Core.Bool.{Bool, true, false, cond, _&&_}
+use mathlib.Core.Bool.{Bool, true, false, cond}
 use mathlib.Core.List.{List, [], _∷_, _++_}
 use Prim.Native.Nat.{ℕ, zero, suc, _+_, _-_, _*_, _^_, _≤_, _<_}
 use native.Mathlib.Omega.{arith}
@@ -17,7 +17,7 @@ use Rattle.std.proofs.shelf.Lists.{take-at, drop-at, take-append-drop, getD-app
 use Rattle.std.proofs.shelf.Sums.{leading-le-length}
 use Rattle.std.proofs.shelf.Tests.{and-parts, and-from, cases-lt, leb-true}
 use lib.Dec.{leb}
-use mathlib.Core.Logic.{_⊎_, inl, inr}
+use mathlib.Core.Logic.{inl, inr}
 use lib.Seq.{length-take-le, getD-take}
 use Rattle.text.specs.Tokens.{NoDigit, Numbered, value-of}
 
@@ -82,9 +82,10 @@ module _ (bytes : List ℕ) (n : ℕ) (rest : List ℕ) (here : Numbered bytes n
 
 -- one number only stands at the front
 pub one-number : (bytes : List ℕ) (n m : ℕ) (rest other : List ℕ) → Numbered bytes n rest → Numbered bytes m other → (n ≡ m) × (rest ≡ other)
-one-number bytes n m rest other a b =
-    (same-from-decimal n m (omega (arith, a .small)) (omega (arith, b .small)) (sym (front-is bytes n rest a) ∙ front-is bytes m other b),
-      sym (rest-is bytes n rest a) ∙ rest-is bytes m other b)
+one-number bytes n m rest other a b = (
+  same-from-decimal n m (omega (arith, a .small)) (omega (arith, b .small)) (sym (front-is bytes n rest a) ∙ front-is bytes m other b),
+  sym (rest-is bytes n rest a) ∙ rest-is bytes m other b,
+)
 
 -- a run of one to five digits, with no leading zero but 0 itself, is a number
 pub numbered : (bytes : List ℕ) → 0 < leading asciiDigit bytes → leading asciiDigit bytes ≤ 5 → (1 < leading asciiDigit bytes → getD bytes 0 0 ≡ 48 → ⊥) →

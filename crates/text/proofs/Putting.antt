@@ -1,7 +1,7 @@
 -- Bytes put one behind the other.
 use mathlib.Core.Path.{_≡_, refl, sym, ap, ap₂, subst, _∙_}
 use mathlib.Core.List.{List, [], _∷_, _++_, map, append-assoc}
-use Prim.Native.Nat.{ℕ, zero, suc, _+_, _-_, _/_, _%_, _^_, _≤_, _<_}
+use Prim.Native.Nat.{ℕ, suc, _+_, _/_, _%_, _≤_, _<_}
 use native.Mathlib.Omega.{arith}
 use native.Mathlib.Nat.{add-zero}
 use lib.ListN.{length, take, drop, getD, length-append, length-drop}
@@ -11,10 +11,9 @@ use Rattle.std.specs.Written.{decimal}
 use Rattle.std.specs.shelf.Lists.{joined}
 use Rattle.std.proofs.shelf.Lists.{append-nil, take-at, drop-at, drop-drop, take-more, take-all}
 use Rattle.std.proofs.shelf.Decimals.{decimal-digit, decimal-step, length-decimal-le}
-use Rattle.chart.specs.declared.parts.Move.{Move}
 use Rattle.chart.specs.Arena.{Arena, Vertex, size}
 use Rattle.drawn.specs.Rules.{move-count}
-use Rattle.text.specs.Lines.{Line, vertices, moves, spelt}
+use Rattle.text.specs.Lines.{vertices, moves, spelt}
 use Rattle.text.specs.Writing.{Holds, Adds, vertex-line, move-line, move-lines, text-of}
 
 pub adds-none : (entry : List ℕ) (at : ℕ) → Adds [] entry at entry at
@@ -69,8 +68,8 @@ pub put-more : {X : Type 0} (f : X → List ℕ) (xs : List X) (i : ℕ) (d : X)
     Adds (joined f (take i xs)) entry at between to → Adds (f (getD xs i d)) between to exit end → Adds (joined f (take (i + 1) xs)) entry at exit end
 put-more f xs i d entry between exit at to end h a b =
     adds-same (joined f (take i xs) ++ f (getD xs i d)) (joined f (take (i + 1) xs)) entry exit at end
-      (ap (λ t. joined f (take i xs) ++ t) (sym (append-nil (f (getD xs i d)))) ∙ sym (joined-append f (take i xs) (getD xs i d ∷ [])) ∙ ap (joined f) (sym (take-more xs i d h)))
-      (adds-more (joined f (take i xs)) (f (getD xs i d)) entry between exit at to end a b)
+    (ap (λ t. joined f (take i xs) ++ t) (sym (append-nil (f (getD xs i d)))) ∙ sym (joined-append f (take i xs) (getD xs i d ∷ [])) ∙ ap (joined f) (sym (take-more xs i d h)))
+    (adds-more (joined f (take i xs)) (f (getD xs i d)) entry between exit at to end a b)
 
 pub move-lines-push : (k : ℕ) (vs : List Vertex) (v : Vertex) → move-lines k (vs ++ v ∷ []) ≡ move-lines k vs ++ map (move-line (k + length vs)) (v .moves)
 move-lines-push k [] v = append-nil (map (move-line k) (v .moves)) ∙ ap (λ n. map (move-line n) (v .moves)) (sym (add-zero k))
@@ -112,10 +111,10 @@ pub put-vertex-moves : (vs : List Vertex) (i : ℕ) (d : Vertex) (entry between 
 put-vertex-moves vs i d entry between exit at to end h a b =
     let here : 0 + length (take i vs) ≡ i = omega (arith, length-take-le i vs (omega arith)) in
     let lines : move-lines 0 (take (i + 1) vs) ≡ move-lines 0 (take i vs) ++ map (move-line i) (getD vs i d .moves) =
-          ap (move-lines 0) (take-more vs i d h) ∙ move-lines-push 0 (take i vs) (getD vs i d) ∙ ap (λ n. move-lines 0 (take i vs) ++ map (move-line n) (getD vs i d .moves)) here in
+    ap (move-lines 0) (take-more vs i d h) ∙ move-lines-push 0 (take i vs) (getD vs i d) ∙ ap (λ n. move-lines 0 (take i vs) ++ map (move-line n) (getD vs i d .moves)) here in
     adds-same (joined spelt (move-lines 0 (take i vs)) ++ joined spelt (map (move-line i) (getD vs i d .moves))) (joined spelt (move-lines 0 (take (i + 1) vs))) entry exit at end
-      (sym (ap (joined spelt) lines ∙ joined-append spelt (move-lines 0 (take i vs)) (map (move-line i) (getD vs i d .moves))))
-      (adds-more (joined spelt (move-lines 0 (take i vs))) (joined spelt (map (move-line i) (getD vs i d .moves))) entry between exit at to end a b)
+    (sym (ap (joined spelt) lines ∙ joined-append spelt (move-lines 0 (take i vs)) (map (move-line i) (getD vs i d .moves))))
+    (adds-more (joined spelt (move-lines 0 (take i vs))) (joined spelt (map (move-line i) (getD vs i d .moves))) entry between exit at to end a b)
 
 -- the whole text, part by part
 pub text-parts : (a : Arena) → spelt (vertices (size a)) ++ (joined spelt (map vertex-line (a .vertices)) ++ (spelt (moves (move-count (a .vertices))) ++ joined spelt (move-lines 0 (a .vertices)))) ≡ text-of a

@@ -1,24 +1,22 @@
 -- One line of reading: it is not due, it is refused, or it is drawn.
 use mathlib.Core.Path.{_≡_, refl, sym, ap, _∙_}
-use mathlib.Core.Bool.{true, false, cond}
-use mathlib.Core.List.{List, [], _∷_, _++_}
+use mathlib.Core.Bool.{cond}
+use mathlib.Core.List.{List, [], _∷_}
 use Prim.Native.Nat.{ℕ, zero, suc, _+_, _-_, _≤_, _<_}
 use native.Mathlib.Omega.{arith}
 use lib.Chars.{codes}
-use lib.Dec.{leb}
-use Rattle.std.specs.declared.option.Option.{Option}
 use Rattle.std.specs.declared.option.Option.the-variants.{Some, None}
 use Rattle.std.specs.declared.result.Result.{Result}
 use Rattle.std.specs.declared.result.Result.the-variants.{Ok, Err}
 use Rattle.std.proofs.shelf.Tests.{le-leb, lt-leb, cases-lt}
-use mathlib.Core.Logic.{_⊎_, inl, inr}
+use mathlib.Core.Logic.{inl, inr}
 use Rattle.chart.specs.declared.refusal.Refusal.{Refusal}
 use Rattle.chart.specs.Arena.{Arena}
-use Rattle.chart.specs.Refusals.{Outcome, done, refused, outcome, number-of, place-of}
+use Rattle.chart.specs.Refusals.{Outcome, done, refused, outcome}
 use Rattle.drawn.specs.Rules.{blank, place-outcome, placed, join-outcome, joined}
 use Rattle.text.specs.Lines.{Line, vertices, vertex, moves, move}
 use Rattle.text.specs.Tokens.{Counted, Lined}
-use Rattle.text.specs.Reading.{Due, count-due, vertex-due, move-due, next, Finished, Begins, drawing, drawn-by, Reads, whole, wrong, declined, onward}
+use Rattle.text.specs.Reading.{Due, count-due, vertex-due, move-due, next, Finished, Begins, drawing, Reads, whole, wrong, declined, onward}
 use Rattle.text.proofs.Fields.{one-move, vertices-lined, lined-vertices, moves-lined, lined-moves}
 
 pub none-some : {A : Type 0} {x : A} → None ≡ Some x → ⊥

@@ -1,3 +1,4 @@
+pub mod laws;
 mod lines;
 pub mod misread;
 pub mod reading;
@@ -8,3 +9,4 @@ pub use misread::Misread;
 pub use misread::MisreadDebug;
 pub use misread::MisreadPartialEq;
 pub use reading::read;
+pub use writing::write;

@@ -7,6 +7,7 @@ use super::tokens::after;
 use super::tokens::field;
 
 const COMMA: u8 = b',';
+
 const LINE_END: u8 = b'\n';
 
 /// The number on a line of one word and one number, and what stands behind the line.

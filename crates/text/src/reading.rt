@@ -58,7 +58,12 @@ fn wrong_line(line: usize) -> Misread
 }
 
 /// Places the vertices of so many lines, the first of which is numbered `line`, and gives what stands behind them.
-fn draw_vertices<'a>(chart: &mut Drawn, text: &'a [u8], count: u32, line: usize) -> Result<&'a [u8], Misread>
+fn draw_vertices<'a>(
+    chart: &mut Drawn,
+    text: &'a [u8],
+    count: u32,
+    line: usize,
+) -> Result<&'a [u8], Misread>
     requires { ⌜ line ≤ 200000 ⌝ }
     ensures { λ r. ⌜ Cases r
         (λ rest. (end : Outcome Arena) → Reads end (sheet (now (chart .exit))) (vertex-due zero) (line + count) (now rest) → Reads end (sheet (now (chart .entry))) (vertex-due count) line (now (text .entry)))
@@ -71,7 +76,10 @@ fn draw_vertices<'a>(chart: &mut Drawn, text: &'a [u8], count: u32, line: usize)
             return Err(wrong_line(here));
         };
         if let Err(refusal) = chart.place(owner, colour) {
-            return Err(Misread { line: here, refusal });
+            return Err(Misread {
+                line: here,
+                refusal,
+            });
         }
         rest = next;
     }
@@ -79,7 +87,12 @@ fn draw_vertices<'a>(chart: &mut Drawn, text: &'a [u8], count: u32, line: usize)
 }
 
 /// Joins the moves of so many lines, the first of which is numbered `line`, and gives what stands behind them.
-fn draw_moves<'a>(chart: &mut Drawn, text: &'a [u8], count: u32, line: usize) -> Result<&'a [u8], Misread>
+fn draw_moves<'a>(
+    chart: &mut Drawn,
+    text: &'a [u8],
+    count: u32,
+    line: usize,
+) -> Result<&'a [u8], Misread>
     requires { ⌜ line ≤ 200000 ⌝ }
     ensures { λ r. ⌜ Cases r
         (λ rest. (end : Outcome Arena) → ((low : ℕ) → Reads end (sheet (now (chart .exit))) (move-due zero low) (line + count) (now rest)) → Reads end (sheet (now (chart .entry))) (move-due count 0) line (now (text .entry)))
@@ -96,7 +109,10 @@ fn draw_moves<'a>(chart: &mut Drawn, text: &'a [u8], count: u32, line: usize) ->
             return Err(wrong_line(here));
         }
         if let Err(refusal) = chart.join(from as usize, to as usize, cost) {
-            return Err(Misread { line: here, refusal });
+            return Err(Misread {
+                line: here,
+                refusal,
+            });
         }
         low = from;
         rest = next;

@@ -1,7 +1,7 @@
 ghost use mathlib.Core.Path.{_≡_};
-ghost use Prim.Native.Nat.{ℕ, _+_, _*_, _<_, _≤_};
-ghost use mathlib.Core.List.{List, [], _∷_, _++_, map};
-ghost use lib.ListN.{length, getD};
+ghost use Prim.Native.Nat.{_+_, _<_, _≤_};
+ghost use mathlib.Core.List.{[], _∷_, _++_, map};
+ghost use lib.ListN.{length};
 ghost use Rattle.std.specs.Written.{decimal};
 ghost use Rattle.std.specs.shelf.Lists.{joined};
 ghost use Rattle.chart.specs.Refusals.{outcome};
@@ -46,7 +46,12 @@ fn put_vertices(chart: &Drawn, out: &mut [u8], start: usize) -> usize
 {
     let mut at = start;
     for vertex in 0..chart.size() {
-        at = put_vertex(out, at, owner_number(chart, vertex), colour_number(chart, vertex));
+        at = put_vertex(
+            out,
+            at,
+            owner_number(chart, vertex),
+            colour_number(chart, vertex),
+        );
     }
     at
 }

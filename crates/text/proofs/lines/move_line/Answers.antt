@@ -22,4 +22,4 @@ returns-in-rest-field-3 c from to cost rest l =
 pub returns : need.returns
 returns c =
     move-lined (c .args .bytes .now) (c .in-Some .numbers .now) (c .in-Some-field .from) (c .in-Some-field-2 .to) (c .in-Some-field-3 .cost) (c .in-Some-field .rest .now) (c .in-Some-field-2 .rest .now) (c .in-Some-field-3 .rest .now)
-      (c .in-Some .ensures tt) (c .in-Some-field .ensures tt) (c .in-Some-field-2 .ensures tt) (c .in-Some-field-3 .ensures tt)
+    (c .in-Some .ensures tt) (c .in-Some-field .ensures tt) (c .in-Some-field-2 .ensures tt) (c .in-Some-field-3 .ensures tt)

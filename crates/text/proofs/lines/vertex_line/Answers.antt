@@ -16,4 +16,4 @@ returns-in-rest-field-2 c owner colour rest l =
 pub returns : need.returns
 returns c =
     vertex-lined (c .args .bytes .now) (c .in-Some .numbers .now) (c .in-Some-field .owner) (c .in-Some-field-2 .colour) (c .in-Some-field .rest .now) (c .in-Some-field-2 .rest .now)
-      (c .in-Some .ensures tt) (c .in-Some-field .ensures tt) (c .in-Some-field-2 .ensures tt)
+    (c .in-Some .ensures tt) (c .in-Some-field .ensures tt) (c .in-Some-field-2 .ensures tt)

@@ -1,18 +1,14 @@
-use mathlib.Core.Path.{_≡_, refl, sym, ap, ap₂, _∙_}
-use mathlib.Core.Bool.{true, false}
-use mathlib.Core.List.{List, []}
-use Prim.Native.Nat.{ℕ, _+_, _<_}
-use native.Mathlib.Omega.{arith}
-use lib.Dec.{eqb}
+use mathlib.Core.Path.{_≡_, refl, sym, ap, ap₂}
+use mathlib.Core.List.{[]}
+use Prim.Native.Nat.{_+_}
 use lib.ListN.{length}
 use Rattle.std.proofs.shelf.Results.{err-from-errBy}
 use Rattle.std.proofs.shelf.Lists.{nil-from-length}
 use Rattle.std.proofs.shelf.Tests.{eqb-true, eqb-false}
-use Rattle.chart.specs.Arena.{Arena}
-use Rattle.chart.specs.Refusals.{Outcome, done, refused}
+use Rattle.chart.specs.Refusals.{refused}
 use Rattle.drawn.specs.Rules.{blank}
 use Rattle.drawn.specs.Meaning.{sheet}
-use Rattle.text.specs.Reading.{Reads, count-due, vertex-due, move-due, told}
+use Rattle.text.specs.Reading.{told}
 use Rattle.text.proofs.Steps.{no-count, no-moves, from-vertices, from-moves-count, from-moves, all-read, more-left}
 use Rattle.text.proofs.reading.draw.Needs as need
 
@@ -29,14 +25,14 @@ returns-in-rest-count-line c =
     let told = c .wrong-line-in-rest-count-line .ensures in
     let a = sheet (c .draw-vertices .last .chart) in
     from-moves-count _ (c .args .text .now) (c .in-Some .vertices) (c .in-Some .rest .now) (c .in-Some .ensures tt) (sheet (c .args .chart .now)) (c .pre) a (c .in-Continue-rest .rest .now) (c .in-Continue-rest .ensures tt _)
-      (no-moves _ a (c .in-Some .vertices + 2) (c .in-Continue-rest .rest .now) (c .in-rest-count-line .ensures tt) (ap₂ refused (told .0) (told .1)))
+    (no-moves _ a (c .in-Some .vertices + 2) (c .in-Continue-rest .rest .now) (c .in-rest-count-line .ensures tt) (ap₂ refused (told .0) (told .1)))
 
 pub returns-in-Break-rest-2 : need.returns-in-Break-rest-2
 returns-in-Break-rest-2 c =
     let p = err-from-errBy (c .from-residual-in-Break-rest-2 .result) (c .from-residual-in-Break-rest-2 .ensures .1) in
     let a = sheet (c .draw-vertices .last .chart) in
     rw (p .1, p .2) (from-moves _ (c .args .text .now) (c .in-Some .vertices) (c .in-Some .rest .now) (c .in-Some .ensures tt) (sheet (c .args .chart .now)) (c .pre) a (c .in-Continue-rest .rest .now) (c .in-Continue-rest .ensures tt _)
-      (c .in-Some-count-line .moves) (c .in-Some-count-line .rest .now) (c .in-Some-count-line .ensures tt) (c .in-Break-rest-2 .ensures tt))
+    (c .in-Some-count-line .moves) (c .in-Some-count-line .rest .now) (c .in-Some-count-line .ensures tt) (c .in-Break-rest-2 .ensures tt))
 
 pub returns-then-not-is-empty : need.returns-then-not-is-empty
 returns-then-not-is-empty c =
@@ -46,8 +42,8 @@ returns-then-not-is-empty c =
     let rest = c .in-Continue-rest-2 .rest .now in
     let some : ¬ (rest ≡ []) = λ e. eqb-false (length rest) 0 (sym (c .if-not-is-empty .ensures tt)) (ap length e) in
     from-moves _ (c .args .text .now) (c .in-Some .vertices) (c .in-Some .rest .now) (c .in-Some .ensures tt) (sheet (c .args .chart .now)) (c .pre) a (c .in-Continue-rest .rest .now) (c .in-Continue-rest .ensures tt _)
-      (c .in-Some-count-line .moves) (c .in-Some-count-line .rest .now) (c .in-Some-count-line .ensures tt)
-      (c .in-Continue-rest-2 .ensures tt _ (λ low. more-left _ b (c .in-Some .vertices + 2 + 1 + c .in-Some-count-line .moves) rest low some (ap₂ refused (told .0) (told .1))))
+    (c .in-Some-count-line .moves) (c .in-Some-count-line .rest .now) (c .in-Some-count-line .ensures tt)
+    (c .in-Continue-rest-2 .ensures tt _ (λ low. more-left _ b (c .in-Some .vertices + 2 + 1 + c .in-Some-count-line .moves) rest low some (ap₂ refused (told .0) (told .1))))
 
 pub returns : need.returns
 returns c =
@@ -56,5 +52,5 @@ returns c =
     let rest = c .in-Continue-rest-2 .rest .now in
     let none : rest ≡ [] = nil-from-length rest (eqb-true (length rest) 0 (sym (c .if-not-is-empty .ensures tt))) in
     from-moves _ (c .args .text .now) (c .in-Some .vertices) (c .in-Some .rest .now) (c .in-Some .ensures tt) (sheet (c .args .chart .now)) (c .pre) a (c .in-Continue-rest .rest .now) (c .in-Continue-rest .ensures tt _)
-      (c .in-Some-count-line .moves) (c .in-Some-count-line .rest .now) (c .in-Some-count-line .ensures tt)
-      (c .in-Continue-rest-2 .ensures tt _ (λ low. all-read _ b (c .in-Some .vertices + 2 + 1 + c .in-Some-count-line .moves) rest low none refl))
+    (c .in-Some-count-line .moves) (c .in-Some-count-line .rest .now) (c .in-Some-count-line .ensures tt)
+    (c .in-Continue-rest-2 .ensures tt _ (λ low. all-read _ b (c .in-Some .vertices + 2 + 1 + c .in-Some-count-line .moves) rest low none refl))

@@ -1,5 +1,5 @@
-use mathlib.Core.Path.{_≡_, refl, sym, ap, ap₂, subst, _∙_}
-use Prim.Native.Nat.{ℕ, zero, _+_, _-_, _<_}
+use mathlib.Core.Path.{_≡_, refl, sym, ap₂}
+use Prim.Native.Nat.{zero, _+_, _-_, _<_}
 use native.Mathlib.Omega.{arith}
 use Rattle.chart.specs.Refusals.{refused, number-of, place-of}
 use Rattle.drawn.specs.Rules.{joined}

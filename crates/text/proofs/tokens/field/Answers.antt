@@ -1,5 +1,4 @@
-use mathlib.Core.Path.{_≡_, sym, ap}
-use mathlib.Core.List.{List, [], _∷_, _++_}
+use mathlib.Core.List.{_∷_}
 use Rattle.text.proofs.Numerals.{one-number}
 use Rattle.text.proofs.Fields.{fielded-number}
 use Rattle.text.proofs.tokens.field.Needs as need

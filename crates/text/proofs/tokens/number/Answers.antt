@@ -1,7 +1,7 @@
 use Prim.Native.Nat.{_-_}
-use mathlib.Core.Path.{_≡_, sym, ap, subst, _∙_}
+use mathlib.Core.Path.{_≡_, ap, _∙_}
 use native.Mathlib.Omega.{arith}
-use lib.ListN.{length, take, drop}
+use lib.ListN.{take}
 use lib.Seq.{length-take-le}
 use Rattle.std.specs.Text.{asciiDigit}
 use Rattle.std.specs.shelf.Lists.{leading}
@@ -34,8 +34,8 @@ value-requires c κs =
 pub returns : need.returns
 returns c =
     numbered-to (c .args .bytes .now) (c .digits-end .result) (c .value .result) (c .digits-end .ensures .run) (c .if-end-eq0 .left) (c .if-end-gt-MOST-DIGITS .left)
-      (λ h zero. elim (c .else-end-gt1 .came) [
-        | else-end-gt1·by·then-end-gt1·else-bytes-eq48 w ↦ w .if-bytes-eq48 .left zero
-        | else-end-gt1·by·else-end-gt1 w ↦ omega (arith, w .if-end-gt1 .left)
-      ])
-      (c .value .ensures)
+    (λ h zero. elim (c .else-end-gt1 .came) [
+      | else-end-gt1·by·then-end-gt1·else-bytes-eq48 w ↦ w .if-bytes-eq48 .left zero
+      | else-end-gt1·by·else-end-gt1 w ↦ omega (arith, w .if-end-gt1 .left)
+    ])
+    (c .value .ensures)

@@ -1,7 +1,5 @@
-use Prim.Native.Nat.{_<_}
 use mathlib.Core.Path.{sym, _∙_}
 use native.Mathlib.Omega.{arith}
-use lib.ListN.{length}
 use Rattle.std.proofs.shelf.Lists.{at-drop-all}
 use Rattle.text.specs.Tokens.{value-of}
 use Rattle.text.proofs.Numerals.{digit-low, value-fits, value-more}

@@ -1,6 +1,4 @@
-use mathlib.Core.List.{[], _∷_, _++_}
 use native.Mathlib.Omega.{arith}
-use lib.Chars.{codes}
 use Rattle.std.specs.Written.{decimal}
 use Rattle.text.proofs.Putting.{adds-more}
 use Rattle.text.proofs.writing.put_count.Needs as need

@@ -1,12 +1,11 @@
-use mathlib.Core.Path.{_≡_, sym, ap, ap₂, _∙_}
+use mathlib.Core.Path.{ap, _∙_}
 use mathlib.Core.List.{[]}
-use Prim.Native.Nat.{ℕ, _≤_}
 use native.Mathlib.Omega.{arith}
 use lib.ListN.{length}
 use Rattle.std.specs.Options.{valueOr}
 use Rattle.drawn.specs.Meaning.{sheet}
 use Rattle.drawn.proofs.Readings.{sheet-ranged}
-use Rattle.text.specs.Lines.{move, spelt}
+use Rattle.text.specs.Lines.{spelt}
 use Rattle.text.specs.Writing.{move-line, vertex-or-none, move-or-none}
 use Rattle.text.proofs.Absent.{vertex-ranged, move-small, value-found}
 use Rattle.text.proofs.Putting.{adds-same, put-more, put-all}
@@ -28,13 +27,14 @@ pub loop-number-again : need.loop-number-again
 loop-number-again c =
     let d = c .args .chart .now in
     let m = c .move-or-none-target .ensures in
-    let deg = c .unwrap-or-number-end .ensures ∙ ap (λ o. valueOr o 0) (c .degree .ensures) ∙ value-found (λ v. length (v .moves)) (sheet d .vertices) (c .args .vertex) (record { owner = 0; colour = 0; moves = [] }) in
-    (omega (arith, c .loop-number .inv .0, c .put-move-at .ensures .few),
+    let deg = c .unwrap-or-number-end .ensures ∙ ap (λ o. valueOr o 0) (c .degree .ensures) ∙ value-found (λ v. length (v .moves)) (sheet d .vertices) (c .args .vertex) (record { owner = 0; colour = 0; moves = [] }) in (
+      omega (arith, c .loop-number .inv .0, c .put-move-at .ensures .few),
       put-more (λ x. spelt (move-line (c .args .vertex) x)) (vertex-or-none (sheet d) (c .args .vertex) .moves) (c .loop-number .number) (record { target = 0; cost = 0 }) (c .args .out .now) (c .loop-number .out) (c .put-move-at .last .out) (c .args .start) (c .loop-number .at) (c .put-move-at .result)
-        (omega (arith, c .loop-number-test .taken, deg))
-        (c .loop-number .inv .1)
-        (adds-same (spelt (move-line (c .args .vertex) (c .move-or-none-target .result))) (spelt (move-line (c .args .vertex) (move-or-none (sheet d) (c .args .vertex) (c .loop-number .number)))) (c .loop-number .out) (c .put-move-at .last .out) (c .loop-number .at) (c .put-move-at .result)
-          (ap (λ x. spelt (move-line (c .args .vertex) x)) m) (c .put-move-at .ensures .adds)))
+          (omega (arith, c .loop-number-test .taken, deg))
+          (c .loop-number .inv .1)
+          (adds-same (spelt (move-line (c .args .vertex) (c .move-or-none-target .result))) (spelt (move-line (c .args .vertex) (move-or-none (sheet d) (c .args .vertex) (c .loop-number .number)))) (c .loop-number .out) (c .put-move-at .last .out) (c .loop-number .at) (c .put-move-at .result)
+          (ap (λ x. spelt (move-line (c .args .vertex) x)) m) (c .put-move-at .ensures .adds)),
+    )
 
 pub returns : need.returns
 returns c =

@@ -1,5 +1,4 @@
 use Prim.Native.Nat.{_+_, _*_, _≤_}
-use mathlib.Core.List.{map}
 use lib.ListN.{take}
 use Rattle.std.specs.shelf.Lists.{joined}
 use Rattle.drawn.specs.Meaning.{sheet}

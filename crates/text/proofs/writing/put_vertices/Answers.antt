@@ -1,8 +1,6 @@
-use mathlib.Core.Path.{_≡_, sym, ap, ap₂, _∙_}
+use mathlib.Core.Path.{ap₂}
 use mathlib.Core.List.{[]}
-use Prim.Native.Nat.{_≤_}
 use native.Mathlib.Omega.{arith}
-use Rattle.chart.specs.Arena.{size}
 use Rattle.drawn.specs.Meaning.{sheet}
 use Rattle.drawn.proofs.Readings.{sheet-ranged, size-is}
 use Rattle.text.specs.Lines.{vertex, spelt}
@@ -25,13 +23,14 @@ put-vertex-at-requires c κs =
 pub loop-vertex-again : need.loop-vertex-again
 loop-vertex-again c =
     let d = c .args .chart .now in
-    let v = vertex-or-none (sheet d) (c .loop-vertex .vertex) in
-    (omega (arith, c .loop-vertex .inv .0, c .put-vertex-at .ensures .few),
+    let v = vertex-or-none (sheet d) (c .loop-vertex .vertex) in (
+      omega (arith, c .loop-vertex .inv .0, c .put-vertex-at .ensures .few),
       put-more (λ x. spelt (vertex-line x)) (sheet d .vertices) (c .loop-vertex .vertex) (record { owner = 0; colour = 0; moves = [] }) (c .args .out .now) (c .loop-vertex .out) (c .put-vertex-at .last .out) (c .args .start) (c .loop-vertex .at) (c .put-vertex-at .result)
-        (omega (arith, c .loop-vertex-test .taken, c .size-vertex-end .ensures))
-        (c .loop-vertex .inv .1)
-        (adds-same (spelt (vertex (c .owner-number .result) (c .colour-number .result))) (spelt (vertex-line v)) (c .loop-vertex .out) (c .put-vertex-at .last .out) (c .loop-vertex .at) (c .put-vertex-at .result)
-          (ap₂ (λ o k. spelt (vertex o k)) (c .owner-number .ensures) (c .colour-number .ensures)) (c .put-vertex-at .ensures .adds)))
+          (omega (arith, c .loop-vertex-test .taken, c .size-vertex-end .ensures))
+          (c .loop-vertex .inv .1)
+          (adds-same (spelt (vertex (c .owner-number .result) (c .colour-number .result))) (spelt (vertex-line v)) (c .loop-vertex .out) (c .put-vertex-at .last .out) (c .loop-vertex .at) (c .put-vertex-at .result)
+          (ap₂ (λ o k. spelt (vertex o k)) (c .owner-number .ensures) (c .colour-number .ensures)) (c .put-vertex-at .ensures .adds)),
+    )
 
 pub returns : need.returns
 returns c =

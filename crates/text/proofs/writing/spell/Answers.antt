@@ -1,4 +1,4 @@
-use mathlib.Core.Path.{_≡_, sym, ap, _∙_}
+use mathlib.Core.Path.{ap}
 use mathlib.Core.List.{_++_, map}
 use native.Mathlib.Omega.{arith}
 use Rattle.std.specs.shelf.Lists.{joined}
@@ -33,6 +33,6 @@ returns c =
     let first = adds-same _ (spelt (vertices (size a))) entry one 0 (c .put-count-at .result) (ap (λ n. spelt (vertices n)) (c .size .ensures)) (c .put-count-at .ensures .adds) in
     let third = adds-same _ (spelt (moves (move-count (a .vertices)))) two three (c .put-vertices-at .result) (c .put-count-at-2 .result) (ap (λ n. spelt (moves n)) (c .move-count .ensures)) (c .put-count-at-2 .ensures .adds) in
     adds-same _ (text-of a) entry exit 0 end (text-parts a)
-      (adds-more (spelt (vertices (size a))) (joined spelt (map vertex-line (a .vertices)) ++ (spelt (moves (move-count (a .vertices))) ++ joined spelt (move-lines 0 (a .vertices)))) entry one exit 0 (c .put-count-at .result) end first
-        (adds-more (joined spelt (map vertex-line (a .vertices))) (spelt (moves (move-count (a .vertices))) ++ joined spelt (move-lines 0 (a .vertices))) one two exit (c .put-count-at .result) (c .put-vertices-at .result) end (c .put-vertices-at .ensures .adds)
-          (adds-more (spelt (moves (move-count (a .vertices)))) (joined spelt (move-lines 0 (a .vertices))) two three exit (c .put-vertices-at .result) (c .put-count-at-2 .result) end third (c .put-moves .ensures))))
+    (adds-more (spelt (vertices (size a))) (joined spelt (map vertex-line (a .vertices)) ++ (spelt (moves (move-count (a .vertices))) ++ joined spelt (move-lines 0 (a .vertices)))) entry one exit 0 (c .put-count-at .result) end first
+    (adds-more (joined spelt (map vertex-line (a .vertices))) (spelt (moves (move-count (a .vertices))) ++ joined spelt (move-lines 0 (a .vertices))) one two exit (c .put-count-at .result) (c .put-vertices-at .result) end (c .put-vertices-at .ensures .adds)
+    (adds-more (spelt (moves (move-count (a .vertices)))) (joined spelt (move-lines 0 (a .vertices))) two three exit (c .put-vertices-at .result) (c .put-count-at-2 .result) end third (c .put-moves .ensures))))
