@@ -4,3 +4,5 @@ pub mod Sailing
 pub mod Waits
 pub mod Greatest
 pub mod Bounds
+pub mod Laying
+pub mod Counterplay
