@@ -13,7 +13,7 @@ use Rattle.game.proofs.Readings.{colour-low, target-low, owner-other}
 use Rattle.game.proofs.Positions.{arrive-top, toll-cases, tint-low, vertex-in-place, stage-in-place, place-low, owner-at, colour-there, colour-at, degree-at-vertex}
 use Rattle.theory.specs.Levels.{Spot}
 use Rattle.theory.proofs.Lifting.{StepAt, land-top, step-arrives, toll-arrives, won-toll, won-next}
-use Rattle.theory.proofs.Sailing.{voyage-push, follows-push}
+use Rattle.theory.proofs.Sailing.{Sailed, sail}
 use Rattle.theory.proofs.Laying.{lay, next-lay, lay-long, few-below}
 use Rattle.std.specs.shelf.Lists.{All}
 use Rattle.std.proofs.shelf.Elements.{all-weaker}
@@ -43,10 +43,6 @@ against-push : (a : Arena) (σ : ℕ → ℕ) (x l : ℕ) (ms : List ℕ) (m : �
     (owner-of a (reached a x ms) ≡ 1 → m ≡ σ (place a (reached a x ms) (ends-at a x l ms) 0)) → Against a σ x l (ms ++ (m ∷ []))
 against-push a σ x l [] m f h e = (h, e, tt)
 against-push a σ x l (n ∷ ms) m f h e = (f .0, f .1, against-push a σ (target-of a x n) (arrive l (colour-of a (target-of a x n))) ms m (f .2) h e)
-
-against-voyage : (a : Arena) (σ : ℕ → ℕ) (x l : ℕ) (ms : List ℕ) → Against a σ x l ms → Voyage a x ms
-against-voyage a σ x l [] f = tt
-against-voyage a σ x l (m ∷ ms) f = (f .0, against-voyage a σ (target-of a x m) (arrive l (colour-of a (target-of a x m))) ms (f .2))
 
 module _ (a : Arena) (r : Ranged a) (ok : may-be-laid a ≡ true) (σ : ℕ → ℕ) (U : ℕ → Type 0)
     (k : Keeps (game-of (waiting a)) 1 (Spot a) σ U) where
@@ -82,32 +78,16 @@ module _ (a : Arena) (r : Ranged a) (ok : may-be-laid a ≡ true) (σ : ℕ → 
       let b = won-next a r ok 1 σ U k x y l hl u (m, f .0, f .1, refl) in
       against-ends y (arrive l (colour-of a y)) ms (land-top a r ok 1 σ U k l y hl) (b .0) (b .1) (f .2)
 
-  -- a voyage of n moves that follows the plan and σ
-  record Sailed (plan : Plan) (v l n : ℕ) : Type 0 where
-    moves : List ℕ
-    long : length moves ≡ n
-    follows : Follows a plan v moves
-    against : Against a σ v l moves
-
-  module _ (mv : (v : ℕ) → v < size a → 0 < degree-of a v) (plan : Plan) (v l : ℕ) (hl : l ≤ a .height / 2) (hv : v < size a) (u : U (place a v l 0)) (picks : Picks a plan v) where
-    sail : (n : ℕ) → Sailed plan v l n
-    sail zero = record { moves = []; long = refl; follows = tt; against = tt }
-    sail (suc n) =
-        let t = sail n in
-        let ms : List ℕ = t .moves in
-        let x : ℕ = reached a v ms in
-        let at = against-ends v l ms hl hv u (t .against) in
-        let on : (m : ℕ) → m < degree-of a x → (owner-of a x ≡ 0 → m ≡ plan ms) → (owner-of a x ≡ 1 → m ≡ σ (place a x (ends-at a v l ms) 0)) → Sailed plan v l (suc n) =
-              λ m h p q. record { moves = ms ++ (m ∷ []); long = length-append ms (m ∷ []) ∙ (let z = t .long in omega arith)
-                                ; follows = follows-push a plan v ms m (t .follows) p; against = against-push a σ v l ms m (t .against) h q } in
-        elim (ℕ-discrete (owner-of a x) 0) [
-          | yes o ↦ on (plan ms) (picks ms (against-voyage a σ v l ms (t .against)) (t .follows) o (mv x (at .0))) (λ z. refl) (λ z. absurd (omega arith))
-          | no o ↦
-              let q : ℕ = place a x (ends-at a v l ms) 0 in
-              let h : σ q < degree-of a x = rw (degree-at-vertex a ok x (ends-at a v l ms) (at .0) (at .1)) at
-                    (k .moves q (at .2) (owner-at a ok x (ends-at a v l ms) (at .0) (at .1) 0 (omega arith) ∙ owner-other a r x o) .0) in
-              on (σ q) h (λ z. absurd (o z)) (λ z. refl)
-        ]
+  -- the harbour can go on by σ
+  on-by : (v l : ℕ) (ms : List ℕ) → l ≤ a .height / 2 → v < size a → U (place a v l 0) → Against a σ v l ms → owner-of a (reached a v ms) ≡ 1 →
+      (m : ℕ) × (m < degree-of a (reached a v ms)) × Against a σ v l (ms ++ (m ∷ []))
+  on-by v l ms hl hv u f o =
+      let x : ℕ = reached a v ms in
+      let j : ℕ = ends-at a v l ms in
+      let at = against-ends v l ms hl hv u f in
+      let h : σ (place a x j 0) < degree-of a x =
+      rw (degree-at-vertex a ok x j (at .0) (at .1)) at (k .moves (place a x j 0) (at .2) (owner-at a ok x j (at .0) (at .1) 0 (omega arith) ∙ o) .0) in
+      (σ (place a x j 0), h, against-push a σ v l ms _ f h (λ z. refl))
 
   -- the colours of the waiting chart end below h + 3
   spot-colour : (p : ℕ) → Spot a p → colour-of (waiting a) p < a .height + 3
@@ -123,12 +103,13 @@ module _ (a : Arena) (r : Ranged a) (ok : may-be-laid a ≡ true) (σ : ℕ → 
   shows-there : (v l : ℕ) (ms : List ℕ) (K : ℕ) → l ≤ a .height / 2 → U (place a v l 0) → Against a σ v l ms → enough K ≤ length ms →
       Shows (colour-of (waiting a)) K (lay a v l ms) × All (Spot a) (lay a v l ms)
   shows-there v l ms K hl u f h =
-      let ch = lay-chain v l ms hl u f in
-      (long-walks E (colour-of (waiting a)) (positions a) K
-         (λ p e loop. k .sound p (walk-first loop .1 .2 .0) (λ q. absurd (omega arith)) loop) (a .height + 3) (lay a v l ms) (ch .0)
-         (all-weaker (Spot a) (λ p. (p < positions a) × (colour-of (waiting a) p < a .height + 3)) (λ p h. (h, spot-colour p h)) (lay a v l ms) (ch .1))
-         (let n = lay-long a v l ms in omega arith),
-       ch .1)
+      let ch = lay-chain v l ms hl u f in (
+        long-walks E (colour-of (waiting a)) (positions a) K
+            (λ p e loop. k .sound p (walk-first loop .1 .2 .0) (λ q. absurd (omega arith)) loop) (a .height + 3) (lay a v l ms) (ch .0)
+            (all-weaker (Spot a) (λ p. (p < positions a) × (colour-of (waiting a) p < a .height + 3)) (λ p h. (h, spot-colour p h)) (lay a v l ms) (ch .1))
+            (let n = lay-long a v l ms in omega arith),
+        ch .1,
+      )
 
   -- the voyage passes one of the limits B and K
   abbrev pub Passes : ℕ → ℕ → ℕ → List ℕ → Type 0
@@ -137,7 +118,9 @@ module _ (a : Arena) (r : Ranged a) (ok : may-be-laid a ≡ true) (σ : ℕ → 
   -- from a vertex whose first position the harbour keeps, σ beats every plan and every two limits
   pub beats : ((v : ℕ) → v < size a → 0 < degree-of a v) → (v : ℕ) → v < size a → U (first a v) → (plan : Plan) → Picks a plan v → (B K : ℕ) →
       (ms : List ℕ) × Voyage a v ms × Follows a plan v ms × Against a σ v (first-level a v) ms × Passes B K v ms
-  beats mv v hv u plan picks B K = go (sail mv plan v l hl hv u picks (enough (K + (a .height / 2 * B + 1))))
+  beats mv v hv u plan picks B K =
+      go (sail a r mv plan v hv picks (Against a σ v l) tt (λ ms m f o h. against-push a σ v l ms m f h (λ z. absurd (omega arith)))
+      (λ ms f o. on-by v l ms hl hv u f o) (enough (K + (a .height / 2 * B + 1))))
     where
       l : ℕ
       l = first-level a v
@@ -145,16 +128,19 @@ module _ (a : Arena) (r : Ranged a) (ok : may-be-laid a ≡ true) (σ : ℕ → 
       hl : l ≤ a .height / 2
       hl = land-top a r ok 1 σ U k 0 v (omega arith)
 
-      go : Sailed plan v l (enough (K + (a .height / 2 * B + 1))) → (ms : List ℕ) × Voyage a v ms × Follows a plan v ms × Against a σ v l ms × Passes B K v ms
-      go t =
-          let f : Voyage a v (t .moves) = against-voyage a σ v l (t .moves) (t .against) in
-          (t .moves, f, t .follows, t .against,
-           elim (decLe (worst-wait a v (t .moves)) B) [
-             | no h ↦ inl (omega arith)
-             | yes h ↦
-                 let w = shows-there v l (t .moves) (K + (a .height / 2 * B + 1)) hl u (t .against) (le-of-eq (sym (t .long))) in
-                 inr (few-below a r ok B K v (t .moves) hv f h (w .1) (w .0))
-           ])
+      go : Sailed a plan v (Against a σ v l) (enough (K + (a .height / 2 * B + 1))) → (ms : List ℕ) × Voyage a v ms × Follows a plan v ms × Against a σ v l ms × Passes B K v ms
+      go t = (
+        t .moves,
+        t .voyage,
+        t .follows,
+        t .against,
+        elim (decLe (worst-wait a v (t .moves)) B) [
+          | no h ↦ inl (omega arith)
+          | yes h ↦
+              let w = shows-there v l (t .moves) (K + (a .height / 2 * B + 1)) hl u (t .against) (le-of-eq (sym (t .long))) in
+              inr (few-below a r ok B K v (t .moves) hv (t .voyage) h (w .1) (w .0))
+        ],
+      )
 
   pub lost : ((v : ℕ) → v < size a → 0 < degree-of a v) → (v : ℕ) → U (first a v) → ¬ Held a v
   lost mv v u held =

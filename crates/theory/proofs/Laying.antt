@@ -206,16 +206,16 @@ module _ (a : Arena) (r : Ranged a) (ok : may-be-laid a ≡ true) (B : ℕ) wher
   -- a position at a vertex is no toll
   no-toll : (x l p : ℕ) → l ≤ a .height / 2 → x < size a → p ≡ place a x l 0 → same (colour-of (waiting a) p) X ≡ 0
   no-toll x l p hl hx e = same-no _ X (λ q. vertex-tint (a .height) (colour-of a x) l (colour-low a r x)
-    (sym (colour-at a ok x l hx hl 0 (omega arith)) ∙ (ap (colour-of (waiting a)) (sym e) ∙ q)))
+      (sym (colour-at a ok x l hx hl 0 (omega arith)) ∙ (ap (colour-of (waiting a)) (sym e) ∙ q)))
 
   -- at level 0 nothing stands under X
   shut : (y : ℕ) (ms ps : List ℕ) → y < size a → Starts ps (lay a y 0 ms) → Low ps → tolls ps ≡ 0
   shut y ms [] hy st un = refl
   shut y ms (p ∷ ps) hy st un = absurd (
-    let h = lay-head a y 0 ms in
-    let e : p ≡ place a y 0 0 = (subst (Starts (p ∷ ps)) (h .1) st) .0 in
-    let s : colour-of (waiting a) p ≡ a .height + 2 = ap (colour-of (waiting a)) e ∙ colour-at a ok y 0 hy (omega arith) 0 (omega arith) in
-    let k = un .0 in omega arith)
+      let h = lay-head a y 0 ms in
+      let e : p ≡ place a y 0 0 = (subst (Starts (p ∷ ps)) (h .1) st) .0 in
+      let s : colour-of (waiting a) p ≡ a .height + 2 = ap (colour-of (waiting a)) e ∙ colour-at a ok y 0 hy (omega arith) 0 (omega arith) in
+      let k = un .0 in omega arith)
 
   -- from the level l, with d levels above it and w paid already
   abbrev Few : ℕ → List ℕ → Type 0
@@ -340,21 +340,27 @@ module _ (a : Arena) (r : Ranged a) (ok : may-be-laid a ≡ true) (B : ℕ) wher
         | no h ↦
             let small : w .shown < a .height + 1 = omega arith in
             let t = down-tally a ok (w .shown) (w .odd) small (w .part) part-low (w .under) in
-            record
-              { shown = w .shown; odd = w .odd; before = down a (w .before); part = down a (w .part); after = down a (w .after)
-              ; is = sym (down-lay a r v l ms hl) ∙ (ap (down a) (w .is) ∙ (down-join a (w .before) (w .part ++ w .after) ∙ ap (λ z. down a (w .before) ++ z) (down-join a (w .part) (w .after))))
-              ; under = down-under a ok (w .shown) (w .odd) small (w .part) part-low (w .under); often = omega arith }
+            record {
+              shown = w .shown;
+              odd = w .odd;
+              before = down a (w .before);
+              part = down a (w .part);
+              after = down a (w .after);
+              is = sym (down-lay a r v l ms hl) ∙ (ap (down a) (w .is) ∙ (down-join a (w .before) (w .part ++ w .after) ∙ ap (λ z. down a (w .before) ++ z) (down-join a (w .part) (w .after))));
+              under = down-under a ok (w .shown) (w .odd) small (w .part) part-low (w .under);
+              often = omega arith;
+            }
         | yes h ↦ elim (ℕ-discrete (w .shown) (a .height + 1)) [
-            | yes e ↦
-                let un : Low (w .part) = subst (λ n. All (λ p. colour-of (waiting a) p ≤ n) (w .part)) e (w .under) in
-                let n = tolls-low ms v l hv hl lg wo (first-open v ms wo) (w .before) (w .part) (subst (Holds (w .before) (w .part)) (sym (w .is)) (holds-join (w .before) (w .part) (w .after))) un in
-                let g : K + (a .height / 2 * B + 1) < tolls (w .part) = subst (λ n. K + (a .height / 2 * B + 1) < tally (λ p. same (colour-of (waiting a) p) n) (w .part)) e (w .often) in
-                absurd (omega arith)
-            | no d ↦
-                let z = tally-none (λ p. same (colour-of (waiting a) p) (w .shown)) (w .part)
-                      (all-weaker _ (λ p. same (colour-of (waiting a) p) (w .shown) ≡ 0)
-                        (λ p (s : Spot a p). same-no _ _ (λ q. absurd (let t = tint-low (a .height) (colour-of a (vertex-in a p)) (level-in a p) (stage-in p) (colour-low a r _) in let c = colour-there a ok p s in omega arith)))
-                        (w .part) part-low) in
-                absurd (omega arith)
-          ]
+          | yes e ↦
+              let un : Low (w .part) = subst (λ n. All (λ p. colour-of (waiting a) p ≤ n) (w .part)) e (w .under) in
+              let n = tolls-low ms v l hv hl lg wo (first-open v ms wo) (w .before) (w .part) (subst (Holds (w .before) (w .part)) (sym (w .is)) (holds-join (w .before) (w .part) (w .after))) un in
+              let g : K + (a .height / 2 * B + 1) < tolls (w .part) = subst (λ n. K + (a .height / 2 * B + 1) < tally (λ p. same (colour-of (waiting a) p) n) (w .part)) e (w .often) in
+              absurd (omega arith)
+          | no d ↦
+              let z = tally-none (λ p. same (colour-of (waiting a) p) (w .shown)) (w .part)
+              (all-weaker _ (λ p. same (colour-of (waiting a) p) (w .shown) ≡ 0)
+              (λ p (s : Spot a p). same-no _ _ (λ q. absurd (let t = tint-low (a .height) (colour-of a (vertex-in a p)) (level-in a p) (stage-in p) (colour-low a r _) in let c = colour-there a ok p s in omega arith)))
+              (w .part) part-low) in
+              absurd (omega arith)
+        ]
       ]

@@ -6,3 +6,8 @@ pub mod Greatest
 pub mod Bounds
 pub mod Laying
 pub mod Counterplay
+pub mod Deciding
+pub mod Best
+pub mod Plain
+pub mod Firsts
+pub mod Kinds
