@@ -10,4 +10,4 @@ pub mod Deciding
 pub mod Best
 pub mod Plain
 pub mod Firsts
-pub mod Kinds
+pub mod Meanings
