@@ -75,6 +75,10 @@ pub tally-split : (f g h : ℕ → ℕ) → ((x : ℕ) → f x ≤ g x + h x) �
 tally-split f g h le [] = omega arith
 tally-split f g h le (x ∷ xs) = let a = le x in let b = tally-split f g h le xs in omega arith
 
+pub tally-join : (f : ℕ → ℕ) (xs ys : List ℕ) → tally f (xs ++ ys) ≡ tally f xs + tally f ys
+tally-join f [] ys = omega arith
+tally-join f (x ∷ xs) ys = let h = tally-join f xs ys in omega arith
+
 pub tally-none : (f : ℕ → ℕ) (xs : List ℕ) → All (λ x. f x ≡ 0) xs → tally f xs ≡ 0
 tally-none f [] a = refl
 tally-none f (x ∷ xs) a = let h = tally-none f xs (a .1) in omega arith
