@@ -2,22 +2,24 @@
 use Rattle.chart.specs.Arena.{Arena, size, Ranged}
 use Rattle.walks.specs.Games.{Step, Keeps}
 use Rattle.walks.specs.Showings.{Shows}
+use Rattle.walks.proofs.Walks.{walk-map}
 use Rattle.game.specs.Reading.{owner-of, colour-of, degree-of, target-of, game-of}
 use Rattle.game.specs.Voyages.{Voyage, reached, passed, worst-wait}
 use Rattle.game.specs.Held.{Plan, Follows, Picks, Held}
 use Rattle.game.specs.Waiting.{levels, arrive, positions, place, stage-in, may-be-laid, waiting, first-level, first}
 use Rattle.game.specs.Claims.{SafePlan, entry, Counters, by-entry, CounterStep, Reached, begun, led, SafeCounter}
 use Rattle.game.proofs.Readings.{colour-low, target-low}
-use Rattle.game.proofs.Positions.{arrive-top, place-low, waiting-size, waiting-ranged}
+use Rattle.game.proofs.Positions.{arrive-top, place-low, degree-off, waiting-size, waiting-ranged}
 use Rattle.theory.specs.Levels.{Spot}
 use Rattle.theory.proofs.Bounds.{marked-held}
 use Rattle.theory.proofs.Counterplay.{Against, Passes, beats, lost}
 use mathlib.Core.Path.{_≡_, refl, sym, subst, ap, _∙_}
-use mathlib.Core.Bool.{true, cond}
+use mathlib.Core.Bool.{true, false, cond}
 use mathlib.Core.Logic.{_⊎_, inl, inr}
 use mathlib.Core.List.{List, [], _∷_}
 use Prim.Native.Nat.{ℕ, _+_, _*_, _/_, _%_, _≤_, _<_}
 use native.Mathlib.Omega.{arith}
+use native.Mathlib.Decide.{ℕ-discrete}
 use lib.Dec.{eqb}
 
 -- moves of the waiting chart lead to positions
@@ -67,3 +69,37 @@ module _ (a : Arena) (r : Ranged a) (ok : may-be-laid a ≡ true) (mv : (v : ℕ
 
   pub decides : (s : ℕ → ℕ) → SafePlan a Marked s → (v : ℕ) → v < size a → (Marked v → Held a v) × (¬ Marked v → ¬ Held a v)
   decides s plan v h = (marked-held a r Marked s plan v, unmarked-lost v h)
+
+-- what the harbour keeps in the waiting chart makes a safe counterplay, if it has the first position of every unmarked
+-- vertex and the counterplay's entries at reached positions are its moves
+module _ (a : Arena) (r : Ranged a) (ok : may-be-laid a ≡ true) (Marked : ℕ → Type 0) (t σ : ℕ → ℕ) (V : ℕ → Type 0)
+    (k : Keeps (game-of (waiting a)) 1 (Spot a) σ V)
+    (unmarked : (v : ℕ) → v < size a → ¬ Marked v → V (first a v))
+    (agrees : (p : ℕ) → Reached a Marked t p → owner-of (waiting a) p ≡ 1 → stage-in p ≡ 0 → t (p / 2) ≡ σ p) where
+  -- at a toll there is one move
+  same-move : (p : ℕ) → Reached a Marked t p → V p → owner-of (waiting a) p ≡ 1 → by-entry t p ≡ σ p
+  same-move p w v o = elim (ℕ-discrete (stage-in p) 0) [
+    | yes e ↦ ap (λ n. cond (eqb n 0) (t (p / 2)) 0) e ∙ agrees p w o e
+    | no d ↦
+        let n : by-entry t p ≡ 0 = (let e : eqb (stage-in p) 0 ≡ false = grind arith in rw e) in
+        let h = k .moves p v o .0 in
+        let g = degree-off a ok p (k .inside p v) d in
+        omega arith
+  ]
+
+  by-kept : (p q : ℕ) → Reached a Marked t p → V p → CounterStep a t p q → Step (game-of (waiting a)) 1 σ p q
+  by-kept p q w v e = (e .0, e .1, (λ o. e .2 o ∙ same-move p w v o), e .3)
+
+  reached-won : {p : ℕ} → Reached a Marked t p → V p
+  reached-won (begun h n) = unmarked _ h n
+  reached-won (led {p} {q} w e) =
+      let v = reached-won w in
+      k .closed p q v (subst (Spot a) (e .3) (spot-leads a r ok p (e .0) (e .1))) (by-kept p q w v e)
+
+  pub counter-safe : SafeCounter a Marked t
+  counter-safe =
+      record {
+        moves = λ p w o. subst (λ m. m < degree-of (waiting a) p) (sym (same-move p w (reached-won w) o)) (k .moves p (reached-won w) o .0);
+        no-even-loop = λ p w e loop. k .sound p (reached-won w) (λ o. absurd (omega arith))
+          (walk-map (λ x y s. (s .0, s .1, (reached-won (s .2 .0), reached-won (s .2 .1), by-kept x y (s .2 .0) (reached-won (s .2 .0)) (s .2 .2)))) loop);
+      }
