@@ -6,7 +6,9 @@ use Rattle.game.specs.Reading.{owner-of, colour-of, degree-of, target-of, cost
 use Rattle.game.specs.Voyages.{Voyage, reached, passed, requests, answers, wait, wait-at, worst-wait, unanswered, still-waiting, highest-waiting}
 use Rattle.game.specs.Held.{Plan, Follows, Picks, Held}
 use Rattle.game.specs.Claims.{PlanStep}
-use Rattle.game.specs.Worked.{empty, answered, waiting-free, waiting-dear, asked-again, put-off, put-off-dear, dear-answer, asked-twice, outbid, too-low}
+use Rattle.game.specs.Waiting.{positions, moves-in, colour-in, may-be-laid, waiting, first}
+use Rattle.game.specs.Bounds.{greatest-wait}
+use Rattle.game.specs.Worked.{ours, to, chart, empty, answered, waiting-free, waiting-dear, asked-again, put-off, put-off-dear, dear-answer, asked-twice, outbid, too-low}
 use mathlib.Core.Path.{_≡_, refl, sym, subst, ap, _∙_}
 use mathlib.Core.Bool.{Bool, true, false, cond, _&&_}
 use mathlib.Core.List.{List, [], _∷_, _++_}
@@ -91,6 +93,27 @@ told-13 = record { way-is = refl; worst-is = refl; left-is = refl; top-is = refl
 told-14 : Told too-low 0 (0 ∷ 0 ∷ []) (0 ∷ 1 ∷ 0 ∷ []) 6 (3 ∷ 3 ∷ []) 3
 unfolding colour-of target-of cost-of
 told-14 = record { way-is = refl; worst-is = refl; left-is = refl; top-is = refl }
+
+-- The greatest waits under plans by the first move of each vertex.
+bounds-told : (greatest-wait empty (λ v. true) (λ v. 0) ≡ 0) × (greatest-wait answered (λ v. true) (λ v. 0) ≡ 3) × (greatest-wait waiting-free (λ v. true) (λ v. 0) ≡ 1) ×
+    (greatest-wait waiting-dear (λ v. eqb v 1) (λ v. 0) ≡ 0) × (greatest-wait put-off (λ v. true) (λ v. 0) ≡ 3) × (greatest-wait dear-answer (λ v. true) (λ v. 0) ≡ 7)
+unfolding colour-of target-of cost-of degree-of owner-of
+bounds-told = (refl, refl, refl, refl, refl, refl)
+
+-- The waiting chart over a chart of two vertices has twenty positions; the request's vertex is first met at level 1.
+positions-told : (positions answered ≡ 20) × (may-be-laid answered ≡ true) × (size (waiting answered) ≡ 20) × (first answered 0 ≡ 2) × (first answered 1 ≡ 10)
+unfolding colour-of waiting
+positions-told = (refl, refl, refl, refl, refl)
+
+-- At vertex 0 and level 1 the move is to the toll of vertex 1 at level 0, where nothing waits any more.
+moves-told : (moves-in answered 2 ≡ to 11 0 ∷ []) × (moves-in answered 11 ≡ to 10 0 ∷ []) × (colour-in answered 2 ≡ 1) × (colour-in answered 11 ≡ 0) × (colour-in answered 10 ≡ 10)
+unfolding colour-of
+moves-told = (refl, refl, refl, refl, refl)
+
+-- Two waiting charts lie over 34 vertices of height 8, and not over 35.
+laid-twice : (may-be-laid (waiting (chart (replicate 34 (ours 0 [])))) ≡ true) × (may-be-laid (waiting (chart (replicate 35 (ours 0 [])))) ≡ false)
+unfolding waiting
+laid-twice = (refl, refl)
 
 -- False: that following only the highest request gives the worst wait.
 

@@ -101,5 +101,5 @@ module _ (a : Arena) (r : Ranged a) (ok : may-be-laid a ≡ true) (Marked : ℕ 
       record {
         moves = λ p w o. subst (λ m. m < degree-of (waiting a) p) (sym (same-move p w (reached-won w) o)) (k .moves p (reached-won w) o .0);
         no-even-loop = λ p w e loop. k .sound p (reached-won w) (λ o. absurd (omega arith))
-          (walk-map (λ x y s. (s .0, s .1, (reached-won (s .2 .0), reached-won (s .2 .1), by-kept x y (s .2 .0) (reached-won (s .2 .0)) (s .2 .2)))) loop);
+            (walk-map (λ x y s. (s .0, s .1, (reached-won (s .2 .0), reached-won (s .2 .1), by-kept x y (s .2 .0) (reached-won (s .2 .0)) (s .2 .2)))) loop);
       }
