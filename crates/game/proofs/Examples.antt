@@ -1,20 +1,20 @@
 -- Voyages on the worked charts, computed; and three tempting falsehoods shown false.
 use Rattle.chart.specs.Arena.{Arena, size}
-use Rattle.walks.specs.Games.{Step, Walk, last, step, Inside, Loop}
-use Rattle.walks.specs.Showings.{same, tally, Shows}
-use Rattle.game.specs.Reading.{owner-of, colour-of, degree-of, target-of, cost-of, game-of}
-use Rattle.game.specs.Voyages.{Voyage, reached, passed, requests, answers, wait, wait-at, worst-wait, unanswered, still-waiting, highest-waiting}
-use Rattle.game.specs.Held.{Plan, Follows, Picks, Held}
+use Rattle.walks.specs.Games.{Walk, last, step, Inside, Loop}
+use Rattle.walks.specs.Showings.{same, tally}
+use Rattle.game.specs.Reading.{owner-of, colour-of, degree-of, target-of, cost-of}
+use Rattle.game.specs.Voyages.{Voyage, passed, requests, wait, worst-wait, unanswered, still-waiting, highest-waiting}
+use Rattle.game.specs.Held.{Plan, Follows, Held}
 use Rattle.game.specs.Claims.{PlanStep}
 use Rattle.game.specs.Waiting.{positions, moves-in, colour-in, may-be-laid, waiting, first}
 use Rattle.game.specs.Bounds.{greatest-wait}
-use Rattle.game.specs.Worked.{ours, to, chart, empty, answered, waiting-free, waiting-dear, asked-again, put-off, put-off-dear, dear-answer, asked-twice, outbid, too-low}
+use Rattle.game.specs.Worked.{ours, to, chart, empty, answered, waiting-free, waiting-dear, put-off, put-off-dear, dear-answer, asked-twice, outbid, too-low}
 use mathlib.Core.Path.{_≡_, refl, sym, subst, ap, _∙_}
-use mathlib.Core.Bool.{Bool, true, false, cond, _&&_}
+use mathlib.Core.Bool.{Bool, true, false, cond}
 use mathlib.Core.List.{List, [], _∷_, _++_}
 use Prim.Native.Nat.{ℕ, zero, suc, _+_, _%_, _≤_, _<_, max}
 use native.Mathlib.Omega.{arith}
-use native.Mathlib.Nat.{le-trans, le-max-left, max-le}
+use native.Mathlib.Nat.{le-trans, le-max-left}
 use lib.Dec.{eqb, ltb}
 use lib.ListN.{replicate}
 use Rattle.walks.proofs.Long.{same-le, same-no, tally-join}

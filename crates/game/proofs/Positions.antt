@@ -1,16 +1,15 @@
 -- The waiting chart, position by position.
 use mathlib.Core.Path.{_≡_, refl, sym, subst, ap, _∙_}
-use mathlib.Core.Bool.{Bool, true, false, cond, _&&_}
+use mathlib.Core.Bool.{Bool, true, false, cond}
 use mathlib.Core.List.{List, [], _∷_, map}
 use mathlib.Core.Logic.{_⊎_, inl, inr}
-use Prim.Native.Nat.{ℕ, zero, suc, _+_, _*_, _/_, _%_, _≤_, _<_, max}
+use Prim.Native.Nat.{ℕ, zero, suc, _+_, _*_, _/_, _%_, _≤_, _<_}
 use native.Mathlib.Omega.{arith}
 use native.Mathlib.Decide.{ℕ-discrete, decLe}
 use native.Mathlib.Nat.{div-lt-iff-lt-mul, mod-lt}
 use lib.Arith.{digits-div, digits-mod, digits-lt}
-use lib.Dec.{eqb, leb}
+use lib.Dec.{eqb}
 use lib.ListN.{length, getD}
-use Rattle.std.specs.declared.option.Option.{Option}
 use Rattle.std.specs.declared.option.Option.the-variants.{Some, None}
 use Rattle.std.specs.Options.{mapped}
 use Rattle.std.specs.Iters.{counting}
@@ -19,12 +18,12 @@ use Rattle.std.specs.shelf.Maps.{nth}
 use Rattle.std.proofs.shelf.Counted.{length-map-counting, getD-map-counting}
 use Rattle.std.proofs.shelf.Elements.{all-from-getD, all-map, all-weaker}
 use Rattle.std.proofs.shelf.Lists.{length-map, getD-map}
-use Rattle.std.proofs.shelf.Maps.{nth-getD, nth-past}
-use Rattle.chart.specs.Arena.{Arena, Vertex, size, vertex-at, move-at, and-then, Ranged, RangedVertex, RangedMove}
+use Rattle.std.proofs.shelf.Maps.{nth-past}
+use Rattle.chart.specs.Arena.{Arena, size, vertex-at, move-at, and-then, Ranged, RangedVertex, RangedMove}
 use Rattle.chart.specs.declared.parts.Move.{Move}
 use Rattle.game.specs.Reading.{no-move, no-vertex, row, owner-of, colour-of, degree-of, target-of, cost-of}
 use Rattle.game.specs.Waiting.{levels, arrive, toll, positions, place, vertex-in, level-in, stage-in, tint, lifted, paying, moves-in, colour-in, position, may-be-laid, waiting}
-use Rattle.game.proofs.Readings.{row-ranged, row-is, row-past, vertex-there, owner-is, colour-is, degree-is, moves-there, owner-low, colour-low, degree-low, target-low, cost-low}
+use Rattle.game.proofs.Readings.{row-ranged, row-past, vertex-there, owner-is, colour-is, degree-is, owner-low, colour-low}
 
 -- arriving
 pub arrive-stays : (l k : ℕ) → arrive (arrive l k) k ≡ arrive l k

@@ -3,13 +3,13 @@
 use mathlib.Core.Path.{_≡_}
 use mathlib.Core.Bool.{false, cond}
 use mathlib.Core.List.{List, [], _∷_}
-use Prim.Native.Nat.{ℕ, _+_, _*_, _/_, _%_, _≤_, _<_}
+use Prim.Native.Nat.{ℕ, _+_, _*_, _/_, _%_, _<_}
 use lib.Dec.{eqb}
 use Rattle.chart.specs.Arena.{Arena, size}
 use Rattle.walks.specs.Games.{Step, Inside, Loop, Reaches}
 use Rattle.game.specs.Reading.{owner-of, colour-of, degree-of, target-of, cost-of, game-of}
 use Rattle.game.specs.Voyages.{answers}
-use Rattle.game.specs.Waiting.{levels, arrive, place, stage-in, waiting, first}
+use Rattle.game.specs.Waiting.{levels, arrive, stage-in, waiting, first}
 
 -- A step on the chart where the controller goes by the standing plan s and the harbour as it likes.
 abbrev pub PlanStep : Arena → (ℕ → ℕ) → ℕ → ℕ → Type 0

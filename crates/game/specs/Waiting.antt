@@ -2,7 +2,7 @@
 -- costs are 0: a cost above 0 below is a toll, a position of its own on the way.
 use mathlib.Core.Bool.{Bool, cond, _&&_}
 use mathlib.Core.List.{List, [], _∷_, map}
-use Prim.Native.Nat.{ℕ, _+_, _*_, _/_, _%_, _≤_, _<_, max}
+use Prim.Native.Nat.{ℕ, _+_, _*_, _/_, _%_, max}
 use lib.Dec.{eqb, leb}
 use Rattle.std.specs.Iters.{counting}
 use Rattle.chart.specs.Arena.{Arena, Vertex, size}

@@ -3,7 +3,7 @@ use Rattle.chart.specs.Arena.{Arena, size}
 use Rattle.game.specs.Reading.{colour-of}
 use Rattle.game.specs.Waiting.{arrive, place}
 use Rattle.theory.specs.Levels.{Stable, Best}
-use mathlib.Core.Path.{_≡_, refl, sym, subst}
+use mathlib.Core.Path.{subst}
 use mathlib.Core.Logic.{_⊎_, inl, inr}
 use Prim.Native.Nat.{ℕ, zero, suc, _/_, _≤_, _<_}
 use native.Mathlib.Omega.{arith}

@@ -1,32 +1,32 @@
 -- What the harbour keeps in the waiting chart beats every plan with memory: a voyage that is long enough passes any
 -- two limits, on the waits and on the showings of an odd colour.
 use Rattle.chart.specs.Arena.{Arena, size, Ranged}
-use Rattle.walks.specs.Games.{Step, Walk, Inside, Loop, Keeps}
-use Rattle.walks.specs.Showings.{Next, Chain, same, tally, Shows, limit}
+use Rattle.walks.specs.Games.{Step, Inside, Keeps}
+use Rattle.walks.specs.Showings.{Chain, Shows, limit}
 use Rattle.walks.proofs.Walks.{walk-first}
-use Rattle.walks.proofs.Long.{long-walks, tally-none, same-yes, same-no, same-le, all-front, all-back}
+use Rattle.walks.proofs.Long.{long-walks}
 use Rattle.game.specs.Reading.{owner-of, colour-of, degree-of, target-of, cost-of, game-of}
-use Rattle.game.specs.Voyages.{Voyage, reached, passed, answers, wait, wait-at, worst-wait}
+use Rattle.game.specs.Voyages.{Voyage, reached, passed, worst-wait}
 use Rattle.game.specs.Held.{Plan, Follows, Picks, Held}
-use Rattle.game.specs.Waiting.{arrive, toll, positions, place, vertex-in, level-in, stage-in, tint, colour-in, may-be-laid, waiting, first-level, first}
-use Rattle.game.proofs.Readings.{colour-low, target-low, owner-other}
-use Rattle.game.proofs.Positions.{arrive-top, toll-cases, tint-low, vertex-in-place, stage-in-place, place-low, owner-at, colour-there, colour-at, degree-at-vertex}
+use Rattle.game.specs.Waiting.{arrive, positions, place, vertex-in, level-in, stage-in, may-be-laid, waiting, first-level, first}
+use Rattle.game.proofs.Readings.{colour-low}
+use Rattle.game.proofs.Positions.{toll-cases, tint-low, owner-at, colour-there, degree-at-vertex}
 use Rattle.theory.specs.Levels.{Spot}
 use Rattle.theory.proofs.Lifting.{StepAt, land-top, step-arrives, toll-arrives, won-toll, won-next}
 use Rattle.theory.proofs.Sailing.{Sailed, sail}
 use Rattle.theory.proofs.Laying.{lay, next-lay, lay-long, few-below}
 use Rattle.std.specs.shelf.Lists.{All}
 use Rattle.std.proofs.shelf.Elements.{all-weaker}
-use mathlib.Core.Path.{_≡_, refl, sym, subst, ap, _∙_}
-use mathlib.Core.Bool.{Bool, true, false, cond, _&&_}
+use mathlib.Core.Path.{_≡_, refl, sym, _∙_}
+use mathlib.Core.Bool.{true, false}
 use mathlib.Core.Logic.{_⊎_, inl, inr}
 use mathlib.Core.List.{List, [], _∷_, _++_}
-use Prim.Native.Nat.{ℕ, zero, suc, _+_, _-_, _*_, _/_, _%_, _≤_, _<_, max}
+use Prim.Native.Nat.{ℕ, _+_, _*_, _/_, _≤_, _<_}
 use native.Mathlib.Omega.{arith}
-use native.Mathlib.Decide.{ℕ-discrete, decLe}
-use native.Mathlib.Nat.{le-trans, le-of-eq, le-max-right, mul-le-mul-right}
-use lib.Dec.{eqb, ltb, leb}
-use lib.ListN.{length, length-append}
+use native.Mathlib.Decide.{decLe}
+use native.Mathlib.Nat.{le-of-eq}
+use lib.Dec.{eqb}
+use lib.ListN.{length}
 
 -- the harbour's moves are those of σ
 abbrev pub Against : Arena → (ℕ → ℕ) → ℕ → ℕ → List ℕ → Type 0

@@ -4,20 +4,20 @@ use Rattle.walks.specs.Games.{Step, Keeps}
 use Rattle.walks.specs.Showings.{Shows}
 use Rattle.walks.proofs.Walks.{walk-map}
 use Rattle.game.specs.Reading.{owner-of, colour-of, degree-of, target-of, game-of}
-use Rattle.game.specs.Voyages.{Voyage, reached, passed, worst-wait}
+use Rattle.game.specs.Voyages.{Voyage, passed, worst-wait}
 use Rattle.game.specs.Held.{Plan, Follows, Picks, Held}
-use Rattle.game.specs.Waiting.{levels, arrive, positions, place, stage-in, may-be-laid, waiting, first-level, first}
+use Rattle.game.specs.Waiting.{arrive, place, stage-in, may-be-laid, waiting, first-level, first}
 use Rattle.game.specs.Claims.{SafePlan, entry, Counters, by-entry, CounterStep, Reached, begun, led, SafeCounter}
 use Rattle.game.proofs.Readings.{colour-low, target-low}
 use Rattle.game.proofs.Positions.{arrive-top, place-low, degree-off, waiting-size, waiting-ranged}
 use Rattle.theory.specs.Levels.{Spot}
 use Rattle.theory.proofs.Bounds.{marked-held}
-use Rattle.theory.proofs.Counterplay.{Against, Passes, beats, lost}
-use mathlib.Core.Path.{_≡_, refl, sym, subst, ap, _∙_}
+use Rattle.theory.proofs.Counterplay.{Against, beats, lost}
+use mathlib.Core.Path.{_≡_, sym, subst, ap, _∙_}
 use mathlib.Core.Bool.{true, false, cond}
-use mathlib.Core.Logic.{_⊎_, inl, inr}
+use mathlib.Core.Logic.{_⊎_}
 use mathlib.Core.List.{List, [], _∷_}
-use Prim.Native.Nat.{ℕ, _+_, _*_, _/_, _%_, _≤_, _<_}
+use Prim.Native.Nat.{ℕ, _/_, _<_}
 use native.Mathlib.Omega.{arith}
 use native.Mathlib.Decide.{ℕ-discrete}
 use lib.Dec.{eqb}

@@ -1,28 +1,28 @@
 -- Where every vertex has a move, a vertex is held exactly when its first position in the waiting chart is held.
 use Rattle.chart.specs.Arena.{Arena, size, Ranged}
-use Rattle.walks.specs.Games.{Game, Step, Inside, Loop, Keeps, Split}
-use Rattle.walks.specs.Tables.{In, Total, members}
+use Rattle.walks.specs.Games.{Game, Keeps}
+use Rattle.walks.specs.Tables.{In, members}
 use Rattle.walks.proofs.Determined.{Solved, determined}
-use Rattle.game.specs.Reading.{owner-of, colour-of, degree-of, target-of, cost-of, game-of}
+use Rattle.game.specs.Reading.{colour-of, degree-of, game-of}
 use Rattle.game.specs.Held.{Held}
-use Rattle.game.specs.Waiting.{arrive, positions, place, vertex-in, stage-in, may-be-laid, waiting, first-level, first}
+use Rattle.game.specs.Waiting.{positions, vertex-in, stage-in, may-be-laid, waiting, first-level, first}
 use Rattle.game.specs.Claims.{SafePlan}
 use Rattle.game.proofs.Readings.{colour-low, owner-other}
 use Rattle.game.proofs.Positions.{arrive-stays, arrive-top, vertex-in-low, degree-on, degree-off, cost-there, waiting-size, waiting-ranged}
-use Rattle.theory.specs.Levels.{Spot, Stable}
+use Rattle.theory.specs.Levels.{Spot}
 use Rattle.theory.proofs.Plans.{plan, plan-safe}
 use Rattle.theory.proofs.Bounds.{marked-held}
 use Rattle.theory.proofs.Counterplay.{lost}
 use Rattle.theory.proofs.Deciding.{spot-leads, first-low}
 use Rattle.theory.proofs.Best.{best, Won, best-is}
 use Rattle.theory.proofs.Plain.{lost-plain}
-use mathlib.Core.Path.{_≡_, refl, sym, subst, ap, _∙_}
-use mathlib.Core.Bool.{Bool, true, false, cond}
+use mathlib.Core.Path.{_≡_, subst}
+use mathlib.Core.Bool.{true, cond}
 use mathlib.Core.Logic.{_⊎_, inl, inr}
-use Prim.Native.Nat.{ℕ, suc, _+_, _*_, _/_, _%_, _≤_, _<_}
+use Prim.Native.Nat.{ℕ, suc, _/_, _≤_, _<_}
 use native.Mathlib.Omega.{arith}
 use native.Mathlib.Decide.{ℕ-discrete, decLe}
-use lib.Dec.{eqb, ltb}
+use lib.Dec.{ltb}
 
 same-region : (g : Game) (i : ℕ) (R Q U : ℕ → Type 0) (s : ℕ → ℕ) → ((p : ℕ) → R p → Q p) → ((p : ℕ) → Q p → R p) → Keeps g i R s U → Keeps g i Q s U
 same-region g i R Q U s f b k =

@@ -2,9 +2,9 @@
 use Rattle.chart.specs.Arena.{Arena, size, Ranged}
 use Rattle.walks.specs.Showings.{Next, same, tally, Shows}
 use Rattle.walks.proofs.Long.{tally-none, same-no, same-le, all-front, all-back}
-use Rattle.game.specs.Reading.{colour-of, degree-of, target-of, cost-of}
-use Rattle.game.specs.Voyages.{Voyage, passed, answers, wait, wait-at, worst-wait}
-use Rattle.game.specs.Waiting.{arrive, toll, positions, place, vertex-in, level-in, stage-in, tint, colour-in, may-be-laid, waiting, first-level}
+use Rattle.game.specs.Reading.{colour-of, target-of, cost-of}
+use Rattle.game.specs.Voyages.{Voyage, passed, answers, wait, worst-wait}
+use Rattle.game.specs.Waiting.{arrive, place, vertex-in, level-in, stage-in, tint, colour-in, may-be-laid, waiting, first-level}
 use Rattle.game.proofs.Readings.{colour-low, target-low}
 use Rattle.game.proofs.Positions.{arrive-top, toll-cases, tint-low, vertex-in-place, stage-in-place, colour-there, colour-at}
 use Rattle.theory.specs.Levels.{Spot}
@@ -12,14 +12,14 @@ use Rattle.theory.proofs.Bounds.{wait-asked, worst-over}
 use Rattle.std.specs.shelf.Lists.{All}
 use Rattle.std.proofs.shelf.Elements.{all-weaker}
 use mathlib.Core.Path.{_≡_, refl, sym, subst, ap, _∙_}
-use mathlib.Core.Bool.{Bool, true, false, cond, _&&_}
+use mathlib.Core.Bool.{true, false, cond}
 use mathlib.Core.Logic.{_⊎_, inl, inr}
 use mathlib.Core.List.{List, [], _∷_, _++_}
-use Prim.Native.Nat.{ℕ, zero, suc, _+_, _-_, _*_, _/_, _%_, _≤_, _<_, max}
+use Prim.Native.Nat.{ℕ, _+_, _-_, _*_, _/_, _%_, _≤_, _<_}
 use native.Mathlib.Omega.{arith}
 use native.Mathlib.Decide.{ℕ-discrete, decLe}
 use native.Mathlib.Nat.{le-trans, le-of-eq, le-max-right, mul-le-mul-right}
-use lib.Dec.{eqb, ltb, leb}
+use lib.Dec.{eqb}
 use lib.ListN.{length}
 
 -- the positions of the voyage from x at the level l

@@ -1,20 +1,19 @@
 -- What the harbour keeps in the parity game on the chart itself is not held.
 use Rattle.chart.specs.Arena.{Arena, size, Ranged}
-use Rattle.walks.specs.Games.{Step, Inside, Loop, Keeps}
-use Rattle.walks.specs.Showings.{Next, Chain, Shows, limit}
+use Rattle.walks.specs.Games.{Step, Inside, Keeps}
+use Rattle.walks.specs.Showings.{Next, Chain, limit}
 use Rattle.walks.proofs.Walks.{walk-first}
 use Rattle.walks.proofs.Long.{long-walks}
 use Rattle.game.specs.Reading.{owner-of, colour-of, degree-of, target-of, game-of}
-use Rattle.game.specs.Voyages.{Voyage, reached, passed}
-use Rattle.game.specs.Held.{Plan, Follows, Held}
+use Rattle.game.specs.Voyages.{reached, passed}
+use Rattle.game.specs.Held.{Held}
 use Rattle.game.proofs.Readings.{colour-low, target-low}
 use Rattle.theory.proofs.Sailing.{passed-long, Sailed, sail}
 use Rattle.std.specs.shelf.Lists.{All}
-use mathlib.Core.Path.{_≡_, refl, sym, subst, ap, _∙_}
+use mathlib.Core.Path.{_≡_, refl}
 use mathlib.Core.List.{List, [], _∷_, _++_}
-use Prim.Native.Nat.{ℕ, _+_, _%_, _≤_, _<_}
+use Prim.Native.Nat.{ℕ, _+_, _<_}
 use native.Mathlib.Omega.{arith}
-use lib.ListN.{length}
 
 module _ (a : Arena) (r : Ranged a) (σ : ℕ → ℕ) (V : ℕ → Type 0) (k : Keeps (game-of a) 1 (λ p. p < size a) σ V) where
   abbrev E : ℕ → ℕ → Type 0

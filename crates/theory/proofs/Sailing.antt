@@ -1,18 +1,16 @@
 -- Voyages put together and taken apart, and their waits.
 use Rattle.chart.specs.Arena.{Arena, size, Ranged}
-use Rattle.game.specs.Reading.{owner-of, colour-of, degree-of, target-of, cost-of}
-use Rattle.game.specs.Voyages.{Voyage, reached, passed, answers, wait, wait-at, worst-wait, unanswered, requests}
+use Rattle.game.specs.Reading.{owner-of, degree-of, target-of, cost-of}
+use Rattle.game.specs.Voyages.{Voyage, reached, passed, answers, wait, unanswered}
 use Rattle.game.specs.Held.{Plan, standing, Follows, Picks}
 use Rattle.game.proofs.Readings.{target-low, owner-other}
 use Rattle.theory.specs.Sailing.{Sails}
 use mathlib.Core.Path.{_≡_, refl, sym, subst, ap, _∙_}
 use mathlib.Core.Bool.{Bool, true, false, cond, _&&_, not}
-use mathlib.Core.Logic.{_⊎_, inl, inr}
 use mathlib.Core.List.{List, [], _∷_, _++_}
-use Prim.Native.Nat.{ℕ, zero, suc, _+_, _%_, _≤_, _<_, max}
+use Prim.Native.Nat.{ℕ, zero, suc, _+_, _<_}
 use native.Mathlib.Omega.{arith}
 use native.Mathlib.Decide.{ℕ-discrete}
-use lib.Dec.{eqb, ltb}
 use lib.ListN.{length, length-append}
 
 module _ (a : Arena) where

@@ -1,10 +1,10 @@
 -- What a player keeps, put together from parts: attractors, traps, and regions solved one after another.
-use Rattle.walks.specs.Games.{Game, Step, Walk, Inside, Loop, Keeps, Descends, AtTop, Trap, Split}
+use Rattle.walks.specs.Games.{Game, Step, Inside, Keeps, Descends, AtTop, Trap, Split}
 use Rattle.walks.proofs.Walks.{walk-map, walk-falls, loop-sorts, walk-first}
-use mathlib.Core.Path.{_≡_, refl, sym, subst, ap, _∙_}
+use mathlib.Core.Path.{_≡_, sym, subst, ap, _∙_}
 use native.Mathlib.Decide.{ℕ-discrete}
 use mathlib.Core.Logic.{_⊎_, inl, inr}
-use Prim.Native.Nat.{ℕ, _+_, _%_, _≤_, _<_}
+use Prim.Native.Nat.{ℕ, _%_, _≤_, _<_}
 use native.Mathlib.Omega.{arith}
 
 -- what is drawn into W is kept with W: outside W ranks fall, so a loop lies in W

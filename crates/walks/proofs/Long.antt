@@ -1,9 +1,9 @@
 -- A finite walk that is long enough shows some colour often, and only odd ones where no even position is
 -- on a loop with no higher colour.
 use Rattle.walks.specs.Games.{Walk, last, step, Inside, Loop}
-use Rattle.walks.specs.Showings.{Next, Chain, same, tally, Shows, limit}
+use Rattle.walks.specs.Showings.{Chain, same, tally, Shows, limit}
 use Rattle.std.specs.shelf.Lists.{All}
-use Rattle.std.proofs.shelf.Elements.{all-append, all-push, all-weaker}
+use Rattle.std.proofs.shelf.Elements.{all-push, all-weaker}
 use mathlib.Core.Path.{_≡_, refl, sym, subst, ap, _∙_}
 use mathlib.Core.Logic.{_⊎_, inl, inr}
 use mathlib.Core.Bool.{Bool, true, false, cond}
