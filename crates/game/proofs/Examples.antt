@@ -8,7 +8,7 @@ use Rattle.game.specs.Held.{Plan, Follows, Held}
 use Rattle.game.specs.Claims.{PlanStep}
 use Rattle.game.specs.Waiting.{positions, moves-in, colour-in, may-be-laid, waiting, first}
 use Rattle.game.specs.Bounds.{greatest-wait}
-use Rattle.game.specs.Worked.{ours, to, chart, empty, answered, waiting-free, waiting-dear, put-off, put-off-dear, dear-answer, asked-twice, outbid, too-low}
+use Rattle.game.specs.Worked.{ours, to, chart, empty, answered, waiting-free, waiting-dear, asked-again, put-off, put-off-dear, dear-answer, asked-twice, outbid, too-low}
 use mathlib.Core.Path.{_≡_, refl, sym, subst, ap, _∙_}
 use mathlib.Core.Bool.{Bool, true, false, cond}
 use mathlib.Core.List.{List, [], _∷_, _++_}
@@ -93,6 +93,11 @@ told-13 = record { way-is = refl; worst-is = refl; left-is = refl; top-is = refl
 told-14 : Told too-low 0 (0 ∷ 0 ∷ []) (0 ∷ 1 ∷ 0 ∷ []) 6 (3 ∷ 3 ∷ []) 3
 unfolding colour-of target-of cost-of
 told-14 = record { way-is = refl; worst-is = refl; left-is = refl; top-is = refl }
+
+-- a request made again and again, at no cost: no wait at all, yet the odd colour comes as often as the harbour likes
+told-15 : Told asked-again 0 (0 ∷ 0 ∷ []) (0 ∷ 0 ∷ 0 ∷ []) 0 (1 ∷ 1 ∷ 1 ∷ []) 1
+unfolding colour-of target-of cost-of
+told-15 = record { way-is = refl; worst-is = refl; left-is = refl; top-is = refl }
 
 -- The greatest waits under plans by the first move of each vertex.
 bounds-told : (greatest-wait empty (λ v. true) (λ v. 0) ≡ 0) × (greatest-wait answered (λ v. true) (λ v. 0) ≡ 3) × (greatest-wait waiting-free (λ v. true) (λ v. 0) ≡ 1) ×
@@ -190,9 +195,9 @@ unfolding colour-of target-of cost-of degree-of owner-of
 dear-on zero = (tt, refl, λ plan. tt)
 dear-on (suc n) = let r = dear-on n in ((omega arith, r .0), (let e = r .1 in omega arith), λ plan. ((λ o. absurd (let z : _≡_ {A = ℕ} 1 0 = o in omega arith)), r .2 (λ past. plan (0 ∷ past))))
 
-dear-lost : ¬ Held put-off-dear 0
+pub put-off-dear-lost : ¬ Held put-off-dear 0
 unfolding colour-of target-of cost-of degree-of owner-of
-dear-lost h =
+put-off-dear-lost h =
     let n : ℕ = h .bound in
     let r = dear-on n in
     let p : h .plan [] < 1 = h .picks [] tt tt refl (omega arith) in
@@ -259,5 +264,5 @@ pub even-loops-do-not-suffice : ¬ ((a : Arena) (marked : ℕ → Bool) (s : ℕ
     ((x y : ℕ) → marked x ≡ true → PlanStep a s x y → marked y ≡ true) →
     ((u : ℕ) → marked u ≡ true → colour-of a u % 2 ≡ 1 → ¬ Loop (colour-of a) (PlanStep a s) u) → (v : ℕ) → marked v ≡ true → Held a v)
 even-loops-do-not-suffice h =
-    dear-lost (h put-off-dear (λ v. ltb v 3) (λ v. 0) (λ v m o. dear-moves v (three v m))
+    put-off-dear-lost (h put-off-dear (λ v. ltb v 3) (λ v. 0) (λ v m o. dear-moves v (three v m))
     (λ x y m e. three-back y (subst (λ z. z < 3) (e .3) (dear-closed x (e .0) (e .1)))) (λ u m o. dear-loops u o) 0 refl)

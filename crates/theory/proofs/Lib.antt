@@ -11,3 +11,4 @@ pub mod Best
 pub mod Plain
 pub mod Firsts
 pub mod Meanings
+pub mod WorkedCharts

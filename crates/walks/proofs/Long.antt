@@ -129,7 +129,7 @@ all-back Q [] ys a = a
 all-back Q (x ∷ xs) ys a = all-back Q xs ys (a .1)
 
 module _ (colour : ℕ → ℕ) (K : ℕ) where
-  shown-back : (xs ys : List ℕ) → Shows colour K ys → Shows colour K (xs ++ ys)
+  pub shown-back : (xs ys : List ℕ) → Shows colour K ys → Shows colour K (xs ++ ys)
   shown-back xs ys w = record {
     shown = w .shown;
     odd = w .odd;
@@ -141,7 +141,7 @@ module _ (colour : ℕ → ℕ) (K : ℕ) where
     often = w .often;
   }
 
-  shown-front : (xs ys : List ℕ) → Shows colour K xs → Shows colour K (xs ++ ys)
+  pub shown-front : (xs ys : List ℕ) → Shows colour K xs → Shows colour K (xs ++ ys)
   shown-front xs ys w = record {
     shown = w .shown;
     odd = w .odd;
