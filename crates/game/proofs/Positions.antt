@@ -1,6 +1,6 @@
 -- The waiting chart, position by position.
 use mathlib.Core.Path.{_≡_, refl, sym, subst, ap, _∙_}
-use mathlib.Core.Bool.{Bool, true, false, cond}
+use mathlib.Core.Bool.{Bool, true, false, cond, _&&_}
 use mathlib.Core.List.{List, [], _∷_, map}
 use mathlib.Core.Logic.{_⊎_, inl, inr}
 use Prim.Native.Nat.{ℕ, zero, suc, _+_, _*_, _/_, _%_, _≤_, _<_}
@@ -8,7 +8,7 @@ use native.Mathlib.Omega.{arith}
 use native.Mathlib.Decide.{ℕ-discrete, decLe}
 use native.Mathlib.Nat.{div-lt-iff-lt-mul, mod-lt}
 use lib.Arith.{digits-div, digits-mod, digits-lt}
-use lib.Dec.{eqb}
+use lib.Dec.{eqb, ltb}
 use lib.ListN.{length, getD}
 use Rattle.std.specs.declared.option.Option.the-variants.{Some, None}
 use Rattle.std.specs.Options.{mapped}
@@ -254,3 +254,36 @@ waiting-ranged a r = go (may-be-laid a) refl
               subst (RangedVertex (size (waiting a)) (waiting a .height)) (sym (waiting-row a ok p k'))
               (rw (n, h) (position-ranged a r p k')));
         }
+
+-- the answers to each question in one equation, whether the waiting chart may be laid or not
+module _ (a : Arena) where
+  pub waiting-height-is : waiting a .height ≡ cond (may-be-laid a) (a .height + 2) 0
+  waiting-height-is = go (may-be-laid a) refl
+    where
+      go : (b : Bool) → may-be-laid a ≡ b → waiting a .height ≡ cond b (a .height + 2) 0
+      go true ok = waiting-height a ok
+      go false un = ap (λ w. w .height) (unlaid a un)
+
+  pub waiting-size-is : size (waiting a) ≡ cond (may-be-laid a) (positions a) 0
+  waiting-size-is = go (may-be-laid a) refl
+    where
+      go : (b : Bool) → may-be-laid a ≡ b → size (waiting a) ≡ cond b (positions a) 0
+      go true ok = waiting-size a ok
+      go false un = ap size (unlaid a un)
+
+  pub waiting-vertex-is : (p : ℕ) → vertex-at (waiting a) p ≡ cond (may-be-laid a && ltb p (positions a)) (Some (position a p)) None
+  waiting-vertex-is p = go (may-be-laid a) refl
+    where
+      go : (b : Bool) → may-be-laid a ≡ b → vertex-at (waiting a) p ≡ cond (b && ltb p (positions a)) (Some (position a p)) None
+      go true ok = elim (decLe (suc p) (positions a)) [
+        | yes h ↦ let e : ltb p (positions a) ≡ true = grind arith in waiting-at a ok p h ∙ rw e
+        | no h ↦ let e : ltb p (positions a) ≡ false = grind arith in waiting-past a ok p (omega arith) ∙ rw e
+      ]
+      go false un = ap (λ w. vertex-at w p) (unlaid a un)
+
+  pub waiting-move-is : (p i : ℕ) → move-at (waiting a) p i ≡ cond (may-be-laid a && ltb p (positions a)) (nth (moves-in a p) i) None
+  waiting-move-is p i = ap (λ o. and-then o (λ x. nth (x .moves) i)) (waiting-vertex-is p)
+      ∙ (elim (may-be-laid a && ltb p (positions a)) as (λ b. and-then (cond b (Some (position a p)) None) (λ x. nth (x .moves) i) ≡ cond b (nth (moves-in a p) i) None) [
+        | true ↦ refl
+        | false ↦ refl
+      ])
