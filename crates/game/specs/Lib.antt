@@ -5,3 +5,4 @@ pub mod Waiting
 pub mod Claims
 pub mod Bounds
 pub mod Worked
+pub mod Tallies

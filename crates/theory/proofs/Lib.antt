@@ -12,3 +12,4 @@ pub mod Plain
 pub mod Firsts
 pub mod Meanings
 pub mod WorkedCharts
+pub mod Tally
