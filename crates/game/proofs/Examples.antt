@@ -94,7 +94,8 @@ told-14 : Told too-low 0 (0 ∷ 0 ∷ []) (0 ∷ 1 ∷ 0 ∷ []) 6 (3 ∷ 3 ∷ 
 unfolding colour-of target-of cost-of
 told-14 = record { way-is = refl; worst-is = refl; left-is = refl; top-is = refl }
 
--- a request made again and again, at no cost: no wait at all, yet the odd colour comes as often as the harbour likes
+-- a request made again and again, at no cost: no wait at all, yet the odd colour comes as often as
+-- the harbour likes
 told-15 : Told asked-again 0 (0 ∷ 0 ∷ []) (0 ∷ 0 ∷ 0 ∷ []) 0 (1 ∷ 1 ∷ 1 ∷ []) 1
 unfolding colour-of target-of cost-of
 told-15 = record { way-is = refl; worst-is = refl; left-is = refl; top-is = refl }
@@ -105,12 +106,14 @@ bounds-told : (greatest-wait empty (λ v. true) (λ v. 0) ≡ 0) × (greatest-wa
 unfolding colour-of target-of cost-of degree-of owner-of
 bounds-told = (refl, refl, refl, refl, refl, refl)
 
--- The waiting chart over a chart of two vertices has twenty positions; the request's vertex is first met at level 1.
+-- The waiting chart over a chart of two vertices has twenty positions; the request's vertex is
+-- first met at level 1.
 positions-told : (positions answered ≡ 20) × (may-be-laid answered ≡ true) × (size (waiting answered) ≡ 20) × (first answered 0 ≡ 2) × (first answered 1 ≡ 10)
 unfolding colour-of waiting
 positions-told = (refl, refl, refl, refl, refl)
 
--- At vertex 0 and level 1 the move is to the toll of vertex 1 at level 0, where nothing waits any more.
+-- At vertex 0 and level 1 the move is to the toll of vertex 1 at level 0, where nothing waits any
+-- more.
 moves-told : (moves-in answered 2 ≡ to 11 0 ∷ []) × (moves-in answered 11 ≡ to 10 0 ∷ []) × (colour-in answered 2 ≡ 1) × (colour-in answered 11 ≡ 0) × (colour-in answered 10 ≡ 10)
 unfolding colour-of
 moves-told = (refl, refl, refl, refl, refl)
@@ -122,7 +125,8 @@ laid-twice = (refl, refl)
 
 -- False: that following only the highest request gives the worst wait.
 
--- The greatest wait found while only the highest waiting colour q, 0 for none, is followed, with its wait w so far.
+-- The greatest wait found while only the highest waiting colour q, 0 for none, is followed, with
+-- its wait w so far.
 follow : Arena → ℕ → ℕ → ℕ → List ℕ → ℕ
 follow a q w v [] = w
 follow a q w v (m ∷ ms) =

@@ -16,7 +16,8 @@ asks a q v = requests a v && eqb (colour-of a v) q
 abbrev pub waits-from : Arena → ℕ → ℕ → List ℕ → Bool
 waits-from a q v ms = asks a q v && unanswered a q v ms
 
--- The tally of colour q: 0 where no request of it waits at the voyage's end, else one more than the wait of the oldest.
+-- The tally of colour q: 0 where no request of it waits at the voyage's end, else one more than the
+-- wait of the oldest.
 abbrev pub oldest : Arena → ℕ → ℕ → List ℕ → ℕ
 oldest a q v [] = cond (waits-from a q v []) 1 0
 oldest a q v (m ∷ ms) = cond (waits-from a q v (m ∷ ms)) (wait a q v (m ∷ ms) + 1) (oldest a q (target-of a v m) ms)
@@ -25,7 +26,8 @@ oldest a q v (m ∷ ms) = cond (waits-from a q v (m ∷ ms)) (wait a q v (m ∷ 
 abbrev pub grown : ℕ → ℕ → ℕ
 grown cost t = cond (eqb t 0) 0 (t + cost)
 
--- Arriving at a colour clears the tally of colour q if it answers it, and opens it if it is that colour.
+-- Arriving at a colour clears the tally of colour q if it answers it, and opens it if it is that
+-- colour.
 abbrev pub arrived : ℕ → ℕ → ℕ → ℕ
 arrived colour q t = cond (eqb (colour % 2) 0 && ltb q colour) 0 (cond (eqb t 0 && eqb colour q) 1 t)
 

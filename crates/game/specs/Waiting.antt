@@ -41,8 +41,9 @@ level-in a p = p / 2 % levels a
 abbrev pub stage-in : ℕ → ℕ
 stage-in p = p % 2
 
--- The colour of a position, over a chart of that height and a vertex of that colour: the highest of all where
--- nothing waits, an odd one above the chart's own at a toll while something waits, else the vertex's.
+-- The colour of a position, over a chart of that height and a vertex of that colour: the highest of
+-- all where nothing waits, an odd one above the chart's own at a toll while something waits, else
+-- the vertex's.
 abbrev pub tint : ℕ → ℕ → ℕ → ℕ → ℕ
 tint height colour level stage =
     cond (eqb stage 0) (cond (eqb level 0) (height + 2) colour) (cond (eqb level 0) 0 (height + 1))

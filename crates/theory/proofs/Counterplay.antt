@@ -1,5 +1,5 @@
--- What the harbour keeps in the waiting chart beats every plan with memory: a voyage that is long enough passes any
--- two limits, on the waits and on the showings of an odd colour.
+-- What the harbour keeps in the waiting chart beats every plan with memory: a voyage that is long
+-- enough passes any two limits, on the waits and on the showings of an odd colour.
 use Rattle.chart.specs.Arena.{Arena, size, Ranged}
 use Rattle.walks.specs.Games.{Step, Inside, Keeps}
 use Rattle.walks.specs.Showings.{Chain, Shows, limit}

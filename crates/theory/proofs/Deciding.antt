@@ -56,8 +56,8 @@ module _ (a : Arena) (r : Ranged a) (ok : may-be-laid a ≡ true) (mv : (v : ℕ
         sound = λ p w bad loop. safe .no-even-loop p w (omega arith) loop;
       }
 
-  -- from an unmarked vertex, for every plan with memory and every two limits, a voyage that follows the plan and the
-  -- counterplay passes one of them
+  -- from an unmarked vertex, for every plan with memory and every two limits, a voyage that follows
+  -- the plan and the counterplay passes one of them
   pub counterplay-beats : (v : ℕ) → v < size a → ¬ Marked v → (plan : Plan) → Picks a plan v → (B K : ℕ) →
       (ms : List ℕ) × Voyage a v ms × Follows a plan v ms × Counters a t v (first-level a v) ms × ((B < worst-wait a v ms) ⊎ Shows (colour-of a) K (passed a v ms))
   counterplay-beats v h n plan picks B K =
@@ -70,8 +70,9 @@ module _ (a : Arena) (r : Ranged a) (ok : may-be-laid a ≡ true) (mv : (v : ℕ
   pub decides : (s : ℕ → ℕ) → SafePlan a Marked s → (v : ℕ) → v < size a → (Marked v → Held a v) × (¬ Marked v → ¬ Held a v)
   decides s plan v h = (marked-held a r Marked s plan v, unmarked-lost v h)
 
--- what the harbour keeps in the waiting chart makes a safe counterplay, if it has the first position of every unmarked
--- vertex and the counterplay's entries at reached positions are its moves
+-- what the harbour keeps in the waiting chart makes a safe counterplay, if it has the first
+-- position of every unmarked vertex and the counterplay's entries at reached positions are its
+-- moves
 module _ (a : Arena) (r : Ranged a) (ok : may-be-laid a ≡ true) (Marked : ℕ → Type 0) (t σ : ℕ → ℕ) (V : ℕ → Type 0)
     (k : Keeps (game-of (waiting a)) 1 (Spot a) σ V)
     (unmarked : (v : ℕ) → v < size a → ¬ Marked v → V (first a v))

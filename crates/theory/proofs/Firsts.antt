@@ -1,4 +1,5 @@
--- Where every vertex has a move, a vertex is held exactly when its first position in the waiting chart is held.
+-- Where every vertex has a move, a vertex is held exactly when its first position in the waiting
+-- chart is held.
 use Rattle.chart.specs.Arena.{Arena, size, Ranged}
 use Rattle.walks.specs.Games.{Game, Keeps}
 use Rattle.walks.specs.Tables.{In, members}

@@ -1,4 +1,5 @@
--- A voyage laid out in the waiting chart: what its positions show, its vertices show or its requests pay for.
+-- A voyage laid out in the waiting chart: what its positions show, its vertices show or its
+-- requests pay for.
 use Rattle.chart.specs.Arena.{Arena, size, Ranged}
 use Rattle.walks.specs.Showings.{Next, same, tally, Shows}
 use Rattle.walks.proofs.Long.{tally-none, same-no, same-le, all-front, all-back}
@@ -191,8 +192,8 @@ worst-tail a x m ms = le-max-right _ _
 vertex-tint : (h k l : ℕ) → k ≤ h → tint h k l 0 ≡ h + 1 → ⊥
 vertex-tint h k l e z = grind arith
 
--- Tolls paid while something waits. A level stands for a request, and where the level rises, a higher request is
--- open: so with each of the levels, no more tolls are paid than the waits allow.
+-- Tolls paid while something waits. A level stands for a request, and where the level rises, a
+-- higher request is open: so with each of the levels, no more tolls are paid than the waits allow.
 module _ (a : Arena) (r : Ranged a) (ok : may-be-laid a ≡ true) (B : ℕ) where
   abbrev X : ℕ
   X = a .height + 1
@@ -326,7 +327,8 @@ module _ (a : Arena) (r : Ranged a) (ok : may-be-laid a ≡ true) (B : ℕ) wher
             behind (place a y j 1) (lay a y j ms) ih (λ qs. first-tolls ms y j hy hj (lg .1) wy oy qs) bs ps (rw e at st) un
       ]
 
-  -- where no wait passes B, what the positions show more than K + (h/2) B + 1 times the vertices show more than K times
+  -- where no wait passes B, what the positions show more than K + (h/2) B + 1 times the vertices
+  -- show more than K times
   pub few-below : (K v : ℕ) (ms : List ℕ) → v < size a → Voyage a v ms → worst-wait a v ms ≤ B → All (Spot a) (lay a v (first-level a v) ms) →
       Shows (colour-of (waiting a)) (K + (a .height / 2 * B + 1)) (lay a v (first-level a v) ms) → Shows (colour-of a) K (passed a v ms)
   few-below K v ms hv lg wo spots w =

@@ -1,6 +1,7 @@
--- The standing plan that plays, at each marked vertex, what the controller plays in the waiting chart at
--- the greatest stable level that it keeps there. Along a walk without an answer that level never
--- falls, so around a loop it is constant: a bad loop below is a bad loop in the waiting chart.
+-- The standing plan that plays, at each marked vertex, what the controller plays in the waiting
+-- chart at the greatest stable level that it keeps there. Along a walk without an answer that level
+-- never falls, so around a loop it is constant: a bad loop below is a bad loop in the waiting
+-- chart.
 use Rattle.chart.specs.Arena.{Arena, Ranged}
 use Rattle.walks.specs.Games.{Step, Walk, last, step, Reaches, Inside, Loop, Keeps}
 use Rattle.walks.proofs.Walks.{walk-map, walk-lift, walk-join, reach-after, reach-join}

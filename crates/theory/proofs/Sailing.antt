@@ -104,7 +104,8 @@ pub record Sailed (a : Arena) (plan : Plan) (v : ℕ) (Against : List ℕ → Ty
   pub follows : Follows a plan v moves
   pub against : Against moves
 
--- where every vertex has a move, such a voyage can be as long as one likes, if the harbour can always go on
+-- where every vertex has a move, such a voyage can be as long as one likes, if the harbour can
+-- always go on
 module _ (a : Arena) (r : Ranged a) (mv : (v : ℕ) → v < size a → 0 < degree-of a v) (plan : Plan) (v : ℕ) (hv : v < size a) (picks : Picks a plan v)
     (Against : List ℕ → Type 0) (begin : Against [])
     (ours : (ms : List ℕ) (m : ℕ) → Against ms → owner-of a (reached a v ms) ≡ 0 → m < degree-of a (reached a v ms) → Against (ms ++ (m ∷ [])))

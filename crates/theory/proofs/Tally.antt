@@ -86,7 +86,8 @@ grown-more c w s =
     let f : eqb (w + 1 + c) 0 ≡ false = grind arith in
     rw (e, f) (omega arith)
 
--- one step of the tally: p says that the start asks, u that it waits so far, w for how long; t is kept of the rest
+-- one step of the tally: p says that the start asks, u that it waits so far, w for how long; t is
+-- kept of the rest
 one-more : (p u b s U : Bool) (w c t W : ℕ) → U ≡ (u && (not b && true)) → W ≡ w + cond u (c + cond b 0 0) 0 →
     cond (p && U) (W + 1) (after b s (grown c t)) ≡ after b s (grown c (cond (p && u) (w + 1) t))
 one-more false u b s U w c t W e f = refl

@@ -1,5 +1,5 @@
--- Waits under a safe plan: loops cost nothing while a request waits, so they can be cut out, and what is left has
--- fewer moves than the chart has vertices.
+-- Waits under a safe plan: loops cost nothing while a request waits, so they can be cut out, and
+-- what is left has fewer moves than the chart has vertices.
 use Rattle.chart.specs.Arena.{Arena, size, Ranged}
 use Rattle.walks.specs.Games.{Reaches, Inside}
 use Rattle.walks.specs.Showings.{Next, Chain, tally, Shows}

@@ -158,8 +158,8 @@ answered-held = marked-held answered (omega arith) (λ v. v < 2) first-moves (pr
     (λ x y h e. subst (λ z. z < 2) (e .3) (answered-target x (e .0) (e .1) .0))
     (λ u y h o e. subst (λ z. answers answered (colour-of answered u) z ≡ true) (e .3) (answered-target u (e .0) (e .1) .1 o)))
 
--- Vertex 0 alone makes a request, of colour 1; from it and from vertex 1 every move arrives at vertex 1 or at colour 2,
--- and going on at vertex 1 is free.
+-- Vertex 0 alone makes a request, of colour 1; from it and from vertex 1 every move arrives at
+-- vertex 1 or at colour 2, and going on at vertex 1 is free.
 pub record Lingers (a : Arena) : Type 0 where
   pub leads : (x m : ℕ) → m < degree-of a x → target-of a x m < size a
   pub moves : (v : ℕ) → v < size a → 0 < degree-of a v

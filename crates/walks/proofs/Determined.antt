@@ -1,6 +1,7 @@
--- Every finite parity game splits into what the one player and what the other keeps, each by one strategy
--- table. By recursion: the attractor of the highest colour is cut off, the rest is solved, and if the other
--- player keeps a part of it, that part with its attractor is cut off and the rest is solved again.
+-- Every finite parity game splits into what the one player and what the other keeps, each by one
+-- strategy table. By recursion: the attractor of the highest colour is cut off, the rest is solved,
+-- and if the other player keeps a part of it, that part with its attractor is cut off and the rest
+-- is solved again.
 use Rattle.walks.specs.Games.{Game, Keeps, Descends, AtTop, Trap, Split}
 use Rattle.walks.specs.Tables.{In, cut, over, members, Total}
 use Rattle.walks.proofs.Walks.{walk-map}

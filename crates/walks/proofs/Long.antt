@@ -1,5 +1,5 @@
--- A finite walk that is long enough shows some colour often, and only odd ones where no even position is
--- on a loop with no higher colour.
+-- A finite walk that is long enough shows some colour often, and only odd ones where no even
+-- position is on a loop with no higher colour.
 use Rattle.walks.specs.Games.{Walk, last, step, Inside, Loop}
 use Rattle.walks.specs.Showings.{Chain, same, tally, Shows, limit}
 use Rattle.std.specs.shelf.Lists.{All}
@@ -170,7 +170,8 @@ few-shown E colour P c xs fair ch low under =
       | inr h ↦ h
     ]
 
--- where no even position is on a loop with no higher colour, every walk of a computed length shows an odd colour more than K times
+-- where no even position is on a loop with no higher colour, every walk of a computed length shows
+-- an odd colour more than K times
 module _ (E : ℕ → ℕ → Type 0) (colour : ℕ → ℕ) (P K : ℕ) (fair : (p : ℕ) → colour p % 2 ≡ 0 → ¬ Loop colour E p) where
   -- a part whose colours are below c
   Short : ℕ → ℕ → Type 0
