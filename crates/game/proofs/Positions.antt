@@ -3,14 +3,13 @@ use mathlib.Core.Path.{_≡_, refl, sym, subst, ap, _∙_}
 use mathlib.Core.Bool.{Bool, true, false, cond, _&&_}
 use mathlib.Core.List.{List, [], _∷_, map}
 use mathlib.Core.Logic.{_⊎_, inl, inr}
-use Prim.Native.Nat.{ℕ, zero, suc, _+_, _*_, _/_, _%_, _≤_, _<_, max}
+use Prim.Native.Nat.{ℕ, zero, suc, _+_, _*_, _/_, _%_, _≤_, _<_}
 use native.Mathlib.Omega.{arith}
 use native.Mathlib.Decide.{ℕ-discrete, decLe}
 use native.Mathlib.Nat.{div-lt-iff-lt-mul, mod-lt}
 use lib.Arith.{digits-div, digits-mod, digits-lt}
-use lib.Dec.{eqb, leb}
+use lib.Dec.{eqb, ltb}
 use lib.ListN.{length, getD}
-use Rattle.std.specs.declared.option.Option.{Option}
 use Rattle.std.specs.declared.option.Option.the-variants.{Some, None}
 use Rattle.std.specs.Options.{mapped}
 use Rattle.std.specs.Iters.{counting}
@@ -19,12 +18,12 @@ use Rattle.std.specs.shelf.Maps.{nth}
 use Rattle.std.proofs.shelf.Counted.{length-map-counting, getD-map-counting}
 use Rattle.std.proofs.shelf.Elements.{all-from-getD, all-map, all-weaker}
 use Rattle.std.proofs.shelf.Lists.{length-map, getD-map}
-use Rattle.std.proofs.shelf.Maps.{nth-getD, nth-past}
-use Rattle.chart.specs.Arena.{Arena, Vertex, size, vertex-at, move-at, and-then, Ranged, RangedVertex, RangedMove}
+use Rattle.std.proofs.shelf.Maps.{nth-past}
+use Rattle.chart.specs.Arena.{Arena, size, vertex-at, move-at, and-then, Ranged, RangedVertex, RangedMove}
 use Rattle.chart.specs.declared.parts.Move.{Move}
 use Rattle.game.specs.Reading.{no-move, no-vertex, row, owner-of, colour-of, degree-of, target-of, cost-of}
 use Rattle.game.specs.Waiting.{levels, arrive, toll, positions, place, vertex-in, level-in, stage-in, tint, lifted, paying, moves-in, colour-in, position, may-be-laid, waiting}
-use Rattle.game.proofs.Readings.{row-ranged, row-is, row-past, vertex-there, owner-is, colour-is, degree-is, moves-there, owner-low, colour-low, degree-low, target-low, cost-low}
+use Rattle.game.proofs.Readings.{row-ranged, row-past, vertex-there, owner-is, colour-is, degree-is, owner-low, colour-low}
 
 -- arriving
 pub arrive-stays : (l k : ℕ) → arrive (arrive l k) k ≡ arrive l k
@@ -255,3 +254,36 @@ waiting-ranged a r = go (may-be-laid a) refl
               subst (RangedVertex (size (waiting a)) (waiting a .height)) (sym (waiting-row a ok p k'))
               (rw (n, h) (position-ranged a r p k')));
         }
+
+-- the answers to each question in one equation, whether the waiting chart may be laid or not
+module _ (a : Arena) where
+  pub waiting-height-is : waiting a .height ≡ cond (may-be-laid a) (a .height + 2) 0
+  waiting-height-is = go (may-be-laid a) refl
+    where
+      go : (b : Bool) → may-be-laid a ≡ b → waiting a .height ≡ cond b (a .height + 2) 0
+      go true ok = waiting-height a ok
+      go false un = ap (λ w. w .height) (unlaid a un)
+
+  pub waiting-size-is : size (waiting a) ≡ cond (may-be-laid a) (positions a) 0
+  waiting-size-is = go (may-be-laid a) refl
+    where
+      go : (b : Bool) → may-be-laid a ≡ b → size (waiting a) ≡ cond b (positions a) 0
+      go true ok = waiting-size a ok
+      go false un = ap size (unlaid a un)
+
+  pub waiting-vertex-is : (p : ℕ) → vertex-at (waiting a) p ≡ cond (may-be-laid a && ltb p (positions a)) (Some (position a p)) None
+  waiting-vertex-is p = go (may-be-laid a) refl
+    where
+      go : (b : Bool) → may-be-laid a ≡ b → vertex-at (waiting a) p ≡ cond (b && ltb p (positions a)) (Some (position a p)) None
+      go true ok = elim (decLe (suc p) (positions a)) [
+        | yes h ↦ let e : ltb p (positions a) ≡ true = grind arith in waiting-at a ok p h ∙ rw e
+        | no h ↦ let e : ltb p (positions a) ≡ false = grind arith in waiting-past a ok p (omega arith) ∙ rw e
+      ]
+      go false un = ap (λ w. vertex-at w p) (unlaid a un)
+
+  pub waiting-move-is : (p i : ℕ) → move-at (waiting a) p i ≡ cond (may-be-laid a && ltb p (positions a)) (nth (moves-in a p) i) None
+  waiting-move-is p i = ap (λ o. and-then o (λ x. nth (x .moves) i)) (waiting-vertex-is p)
+      ∙ (elim (may-be-laid a && ltb p (positions a)) as (λ b. and-then (cond b (Some (position a p)) None) (λ x. nth (x .moves) i) ≡ cond b (nth (moves-in a p) i) None) [
+        | true ↦ refl
+        | false ↦ refl
+      ])

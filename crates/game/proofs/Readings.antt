@@ -1,18 +1,15 @@
 -- The tables of an arena beside its rows, and the ranges that they keep.
-use mathlib.Core.Path.{_≡_, refl, sym, subst, ap, _∙_}
+use mathlib.Core.Path.{_≡_, sym, subst, ap, _∙_}
 use mathlib.Core.List.{List, [], _∷_}
-use mathlib.Core.Logic.{_⊎_, inl, inr}
-use Prim.Native.Nat.{ℕ, zero, suc, _+_, _%_, _≤_, _<_}
+use Prim.Native.Nat.{ℕ, zero, suc, _≤_, _<_}
 use native.Mathlib.Omega.{arith}
-use native.Mathlib.Decide.{ℕ-discrete, decLe}
+use native.Mathlib.Decide.{decLe}
 use lib.ListN.{length, getD, List·getD-eq-default}
-use Rattle.std.specs.declared.option.Option.{Option}
-use Rattle.std.specs.declared.option.Option.the-variants.{Some, None}
-use Rattle.std.specs.shelf.Lists.{All}
+use Rattle.std.specs.declared.option.Option.the-variants.{Some}
 use Rattle.std.specs.shelf.Maps.{nth}
 use Rattle.std.proofs.shelf.Elements.{all-getD}
 use Rattle.std.proofs.shelf.Maps.{nth-getD}
-use Rattle.chart.specs.Arena.{Arena, Vertex, size, vertex-at, move-at, Ranged, RangedVertex, RangedMove}
+use Rattle.chart.specs.Arena.{Arena, Vertex, size, vertex-at, Ranged, RangedVertex, RangedMove}
 use Rattle.chart.specs.declared.parts.Move.{Move}
 use Rattle.game.specs.Reading.{no-move, no-vertex, row, owner-of, colour-of, degree-of, target-of, cost-of}
 

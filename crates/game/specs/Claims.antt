@@ -3,13 +3,13 @@
 use mathlib.Core.Path.{_≡_}
 use mathlib.Core.Bool.{false, cond}
 use mathlib.Core.List.{List, [], _∷_}
-use Prim.Native.Nat.{ℕ, _+_, _*_, _/_, _%_, _≤_, _<_}
+use Prim.Native.Nat.{ℕ, _+_, _*_, _/_, _%_, _<_}
 use lib.Dec.{eqb}
 use Rattle.chart.specs.Arena.{Arena, size}
 use Rattle.walks.specs.Games.{Step, Inside, Loop, Reaches}
 use Rattle.game.specs.Reading.{owner-of, colour-of, degree-of, target-of, cost-of, game-of}
 use Rattle.game.specs.Voyages.{answers}
-use Rattle.game.specs.Waiting.{levels, arrive, place, stage-in, waiting, first}
+use Rattle.game.specs.Waiting.{levels, arrive, stage-in, waiting, first}
 
 -- A step on the chart where the controller goes by the standing plan s and the harbour as it likes.
 abbrev pub PlanStep : Arena → (ℕ → ℕ) → ℕ → ℕ → Type 0
@@ -29,9 +29,9 @@ pub record CostlyLoop (a : Arena) (s : ℕ → ℕ) (u : ℕ) : Type 0 where
   pub costs : 0 < cost-of a from (move .0 .0)
   pub back : Reaches (WaitingStep a s (colour-of a u)) to from
 
--- The standing plan s is safe on the marked vertices: it has a move at each that the controller owns, no
--- step leaves them, no odd one is on a loop with no higher colour, and from no odd one a costly loop
--- can be met without an answer.
+-- The standing plan s is safe on the marked vertices: it has a move at each that the controller
+-- owns, no step leaves them, no odd one is on a loop with no higher colour, and from no odd one a
+-- costly loop can be met without an answer.
 pub record SafePlan (a : Arena) (Marked : ℕ → Type 0) (s : ℕ → ℕ) : Type 0 where
   pub there : (v : ℕ) → Marked v → v < size a
   pub moves : (v : ℕ) → Marked v → owner-of a v ≡ 0 → s v < degree-of a v
@@ -63,8 +63,9 @@ pub data Reached (a : Arena) (Marked : ℕ → Type 0) (t : ℕ → ℕ) : ℕ �
   begun : {v : ℕ} → v < size a → ¬ Marked v → Reached a Marked t (first a v)
   led : {p q : ℕ} → Reached a Marked t p → CounterStep a t p q → Reached a Marked t q
 
--- The counterplay is safe against the marks: it has a move at every reached position of the harbour, and no reached
--- position of even colour is on a loop of reached ones with no higher colour.
+-- The counterplay is safe against the marks: it has a move at every reached position of the
+-- harbour, and no reached position of even colour is on a loop of reached ones with no higher
+-- colour.
 pub record SafeCounter (a : Arena) (Marked : ℕ → Type 0) (t : ℕ → ℕ) : Type 0 where
   pub moves : (p : ℕ) → Reached a Marked t p → owner-of (waiting a) p ≡ 1 → by-entry t p < degree-of (waiting a) p
   pub no-even-loop : (p : ℕ) → Reached a Marked t p → colour-of (waiting a) p % 2 ≡ 0 →

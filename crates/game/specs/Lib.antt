@@ -4,3 +4,5 @@ pub mod Held
 pub mod Waiting
 pub mod Claims
 pub mod Bounds
+pub mod Worked
+pub mod Tallies

@@ -7,18 +7,22 @@ use Rattle.chart.specs.Arena.{Arena, Vertex}
 use Rattle.chart.specs.declared.parts.Move.{Move}
 use Rattle.walks.specs.Games.{Game}
 
+-- What is read past the last move, and past the last vertex.
 abbrev pub no-move : Move
 no-move = record { target = 0; cost = 0 }
 
 abbrev pub no-vertex : Vertex
 no-vertex = record { owner = 0; colour = 0; moves = [] }
 
+-- The vertex of a number.
 abbrev pub row : Arena → ℕ → Vertex
 row a v = getD (a .vertices) v no-vertex
 
+-- Who decides at v: 0 the controller, 1 the harbour.
 unfoldable pub owner-of : Arena → ℕ → ℕ
 owner-of a v = row a v .owner
 
+-- The colour of v.
 unfoldable pub colour-of : Arena → ℕ → ℕ
 colour-of a v = row a v .colour
 

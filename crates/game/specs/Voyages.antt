@@ -1,11 +1,10 @@
 -- Voyages on a chart, the requests met on the way, and how long they wait.
-use mathlib.Core.Path.{_≡_}
-use mathlib.Core.Bool.{Bool, true, false, cond, _&&_, not}
+use mathlib.Core.Bool.{Bool, true, cond, _&&_, not}
 use mathlib.Core.List.{List, [], _∷_}
-use Prim.Native.Nat.{ℕ, _+_, _%_, _≤_, _<_, max}
+use Prim.Native.Nat.{ℕ, _+_, _%_, _<_, max}
 use lib.Dec.{eqb, ltb}
 use Rattle.chart.specs.Arena.{Arena}
-use Rattle.game.specs.Reading.{owner-of, colour-of, degree-of, target-of, cost-of}
+use Rattle.game.specs.Reading.{colour-of, degree-of, target-of, cost-of}
 
 -- The moves ms, by their numbers, are a voyage from v: each is a move of the vertex reached.
 abbrev pub Voyage : Arena → ℕ → List ℕ → Type 0

@@ -2,7 +2,7 @@
 -- costs are 0: a cost above 0 below is a toll, a position of its own on the way.
 use mathlib.Core.Bool.{Bool, cond, _&&_}
 use mathlib.Core.List.{List, [], _∷_, map}
-use Prim.Native.Nat.{ℕ, _+_, _*_, _/_, _%_, _≤_, _<_, max}
+use Prim.Native.Nat.{ℕ, _+_, _*_, _/_, _%_, max}
 use lib.Dec.{eqb, leb}
 use Rattle.std.specs.Iters.{counting}
 use Rattle.chart.specs.Arena.{Arena, Vertex, size}
@@ -10,7 +10,7 @@ use Rattle.chart.specs.declared.parts.Move.{Move}
 use Rattle.game.specs.Reading.{row, owner-of, colour-of}
 
 -- A level is a number from 0 to half the height: level 0 says that nothing waits, level l that the
--- highest waiting colour is 2 l − 1.
+-- highest waiting colour is 2 l − 1. This is how many levels there are.
 abbrev pub levels : Arena → ℕ
 levels a = a .height / 2 + 1
 
@@ -41,7 +41,9 @@ level-in a p = p / 2 % levels a
 abbrev pub stage-in : ℕ → ℕ
 stage-in p = p % 2
 
--- The colour of a position, over a chart of that height and a vertex of that colour.
+-- The colour of a position, over a chart of that height and a vertex of that colour: the highest of
+-- all where nothing waits, an odd one above the chart's own at a toll while something waits, else
+-- the vertex's.
 abbrev pub tint : ℕ → ℕ → ℕ → ℕ → ℕ
 tint height colour level stage =
     cond (eqb stage 0) (cond (eqb level 0) (height + 2) colour) (cond (eqb level 0) 0 (height + 1))
@@ -55,9 +57,11 @@ lifted a level m =
 abbrev pub paying : Arena → ℕ → Move
 paying a p = record { target = place a (vertex-in a p) (level-in a p) 0; cost = 0 }
 
+-- The moves of a position: those of its vertex, lifted, or at a toll the one that pays it.
 abbrev pub moves-in : Arena → ℕ → List Move
 moves-in a p = cond (eqb (stage-in p) 0) (map (lifted a (level-in a p)) (row a (vertex-in a p) .moves)) (paying a p ∷ [])
 
+-- The colour of a position, by its number.
 abbrev pub colour-in : Arena → ℕ → ℕ
 colour-in a p = tint (a .height) (colour-of a (vertex-in a p)) (level-in a p) (stage-in p)
 
@@ -76,7 +80,7 @@ waiting a =
     (record { height = a .height + 2; vertices = map (position a) (counting 0 (positions a)) })
     (record { height = 0; vertices = [] })
 
--- The level with which a voyage begins, and the position at which it does.
+-- The level with which a voyage from v begins, and the position at which it does.
 abbrev pub first-level : Arena → ℕ → ℕ
 first-level a v = arrive 0 (colour-of a v)
 

@@ -1,25 +1,23 @@
 -- The greatest wait under a safe plan: no voyage passes it, and some voyage has it.
 use Rattle.chart.specs.Arena.{Arena, size, Ranged}
-use Rattle.walks.specs.Showings.{Shows}
 use Rattle.game.specs.Reading.{owner-of, colour-of, degree-of, target-of, cost-of}
-use Rattle.game.specs.Voyages.{Voyage, reached, passed, requests, answers, wait, wait-at, worst-wait}
-use Rattle.game.specs.Held.{Plan, standing, Follows, Held}
-use Rattle.game.specs.Claims.{PlanStep, SafePlan}
+use Rattle.game.specs.Voyages.{requests, answers, wait, wait-at, worst-wait}
+use Rattle.game.specs.Held.{standing, Held}
+use Rattle.game.specs.Claims.{SafePlan}
 use Rattle.game.specs.Bounds.{Under, GreatestWait, greatest-of, allowed, longest, greatest-wait, greatest-cost}
 use Rattle.game.proofs.Readings.{moves-there}
 use Rattle.theory.specs.Sailing.{Sails}
 use Rattle.theory.proofs.Greatest.{greatest-over, greatest-met, greatest-none}
 use Rattle.theory.proofs.Sailing.{sails, sails-voyage, sails-follows}
-use Rattle.theory.proofs.Waits.{sails-marked, few-showings, Short, short}
-use mathlib.Core.Path.{_≡_, refl, sym, subst, ap, _∙_}
+use Rattle.theory.proofs.Waits.{sails-marked, few-showings, short}
+use mathlib.Core.Path.{_≡_, refl, sym, ap, _∙_}
 use mathlib.Core.Bool.{Bool, true, false, cond, _&&_}
-use mathlib.Core.Logic.{_⊎_, inl, inr}
+use mathlib.Core.Logic.{inl, inr}
 use mathlib.Core.List.{List, [], _∷_}
-use Prim.Native.Nat.{ℕ, zero, suc, _+_, _-_, _*_, _%_, _≤_, _<_, max}
+use Prim.Native.Nat.{ℕ, zero, suc, _+_, _-_, _*_, _%_, _≤_, _<_}
 use native.Mathlib.Omega.{arith}
-use native.Mathlib.Decide.{ℕ-discrete, decLe}
-use native.Mathlib.Nat.{le-trans, le-of-eq, le-antisymm, max-le, le-max-left, mul-le-mul-right}
-use lib.Dec.{eqb, ltb}
+use native.Mathlib.Decide.{ℕ-discrete}
+use native.Mathlib.Nat.{le-trans, le-of-eq, max-le, le-max-left, mul-le-mul-right}
 use lib.ListN.{length}
 
 pub cost-within : (a : Arena) (v m : ℕ) → m < degree-of a v → cost-of a v m ≤ greatest-cost a

@@ -4,3 +4,12 @@ pub mod Sailing
 pub mod Waits
 pub mod Greatest
 pub mod Bounds
+pub mod Laying
+pub mod Counterplay
+pub mod Deciding
+pub mod Best
+pub mod Plain
+pub mod Firsts
+pub mod Meanings
+pub mod WorkedCharts
+pub mod Tally

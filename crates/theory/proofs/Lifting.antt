@@ -1,15 +1,15 @@
 -- Steps of a chart, seen from the waiting chart, where one player keeps W there by σ.
 use Rattle.chart.specs.Arena.{Arena, size, Ranged}
-use Rattle.walks.specs.Games.{Game, Step, Keeps}
-use Rattle.game.specs.Reading.{owner-of, colour-of, degree-of, target-of, cost-of, game-of}
-use Rattle.game.specs.Waiting.{arrive, toll, positions, place, may-be-laid, waiting}
+use Rattle.walks.specs.Games.{Step, Keeps}
+use Rattle.game.specs.Reading.{colour-of, cost-of, game-of}
+use Rattle.game.specs.Waiting.{arrive, toll, place, may-be-laid, waiting}
 use Rattle.game.proofs.Readings.{moves-there, colour-low, target-low}
 use Rattle.game.proofs.Positions.{arrive-top, toll-cases, toll-low, place-low, owner-at, degree-at-vertex, degree-at-toll, target-at-vertex, target-at-toll}
 use Rattle.theory.specs.Levels.{Spot}
-use mathlib.Core.Path.{_≡_, refl, sym, subst, ap, _∙_}
+use mathlib.Core.Path.{_≡_, sym, subst, ap, _∙_}
 use mathlib.Core.Bool.{true}
-use mathlib.Core.Logic.{_⊎_, inl, inr}
-use Prim.Native.Nat.{ℕ, _+_, _*_, _/_, _%_, _≤_, _<_}
+use mathlib.Core.Logic.{inl, inr}
+use Prim.Native.Nat.{ℕ, _/_, _≤_, _<_}
 use native.Mathlib.Omega.{arith}
 
 module _ (a : Arena) (r : Ranged a) (ok : may-be-laid a ≡ true) (i : ℕ) (σ : ℕ → ℕ) (W : ℕ → Type 0)

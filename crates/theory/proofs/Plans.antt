@@ -1,25 +1,24 @@
--- The standing plan that plays, at each marked vertex, what the controller plays in the waiting chart at
--- the greatest stable level that it keeps there. Along a walk without an answer that level never
--- falls, so around a loop it is constant: a bad loop below is a bad loop in the waiting chart.
-use Rattle.chart.specs.Arena.{Arena, size, Ranged}
-use Rattle.walks.specs.Games.{Game, Step, Walk, last, step, Reaches, Inside, Loop, Keeps}
+-- The standing plan that plays, at each marked vertex, what the controller plays in the waiting
+-- chart at the greatest stable level that it keeps there. Along a walk without an answer that level
+-- never falls, so around a loop it is constant: a bad loop below is a bad loop in the waiting
+-- chart.
+use Rattle.chart.specs.Arena.{Arena, Ranged}
+use Rattle.walks.specs.Games.{Step, Walk, last, step, Reaches, Inside, Loop, Keeps}
 use Rattle.walks.proofs.Walks.{walk-map, walk-lift, walk-join, reach-after, reach-join}
-use Rattle.game.specs.Reading.{owner-of, colour-of, degree-of, target-of, cost-of, game-of}
-use Rattle.game.specs.Voyages.{answers}
-use Rattle.game.specs.Waiting.{arrive, toll, tint, positions, place, may-be-laid, waiting}
+use Rattle.game.specs.Reading.{owner-of, colour-of, degree-of, cost-of, game-of}
+use Rattle.game.specs.Waiting.{arrive, toll, tint, place, may-be-laid, waiting}
 use Rattle.game.specs.Claims.{PlanStep, WaitingStep, CostlyLoop, SafePlan}
-use Rattle.game.proofs.Readings.{moves-there, colour-low, target-low}
-use Rattle.game.proofs.Positions.{arrive-stays, arrive-odd, arrive-top, toll-cases, toll-paid, toll-low, place-low, owner-at, colour-at, degree-at-vertex}
-use Rattle.theory.specs.Levels.{Spot, Stable, Best}
+use Rattle.game.proofs.Readings.{colour-low}
+use Rattle.game.proofs.Positions.{arrive-stays, arrive-odd, toll-cases, toll-paid, owner-at, colour-at, degree-at-vertex}
+use Rattle.theory.specs.Levels.{Spot, Best}
 use Rattle.theory.proofs.Lifting.{StepAt, land-top, step-arrives, toll-arrives, won-toll, won-next}
 use mathlib.Core.Path.{_≡_, refl, sym, subst, subst₂, ap, _∙_}
-use mathlib.Core.Bool.{Bool, true, false, cond, _&&_}
+use mathlib.Core.Bool.{true, false, _&&_}
 use mathlib.Core.Logic.{_⊎_, inl, inr}
-use Prim.Native.Nat.{ℕ, _+_, _*_, _/_, _%_, _≤_, _<_, max}
+use Prim.Native.Nat.{ℕ, _+_, _*_, _/_, _%_, _≤_, _<_}
 use native.Mathlib.Omega.{arith}
-use native.Mathlib.Decide.{ℕ-discrete, decLe}
 use native.Mathlib.Nat.{le-of-eq}
-use lib.Dec.{eqb, ltb, leb}
+use lib.Dec.{eqb, ltb}
 
 -- a level that stands for more than q falls only at an answer to q
 arrive-keeps : (l k q : ℕ) → q < 2 * l → (eqb (k % 2) 0 && ltb q k) ≡ false → l ≤ arrive l k

@@ -1,16 +1,16 @@
 -- Voyages put together and taken apart, and their waits.
-use Rattle.chart.specs.Arena.{Arena}
-use Rattle.game.specs.Reading.{owner-of, colour-of, degree-of, target-of, cost-of}
-use Rattle.game.specs.Voyages.{Voyage, reached, passed, answers, wait, wait-at, worst-wait, unanswered, requests}
-use Rattle.game.specs.Held.{Plan, standing, Follows}
+use Rattle.chart.specs.Arena.{Arena, size, Ranged}
+use Rattle.game.specs.Reading.{owner-of, degree-of, target-of, cost-of}
+use Rattle.game.specs.Voyages.{Voyage, reached, passed, answers, wait, unanswered}
+use Rattle.game.specs.Held.{Plan, standing, Follows, Picks}
+use Rattle.game.proofs.Readings.{target-low, owner-other}
 use Rattle.theory.specs.Sailing.{Sails}
 use mathlib.Core.Path.{_≡_, refl, sym, subst, ap, _∙_}
 use mathlib.Core.Bool.{Bool, true, false, cond, _&&_, not}
-use mathlib.Core.Logic.{_⊎_, inl, inr}
 use mathlib.Core.List.{List, [], _∷_, _++_}
-use Prim.Native.Nat.{ℕ, zero, suc, _+_, _%_, _≤_, _<_, max}
+use Prim.Native.Nat.{ℕ, zero, suc, _+_, _<_}
 use native.Mathlib.Omega.{arith}
-use lib.Dec.{eqb, ltb}
+use native.Mathlib.Decide.{ℕ-discrete}
 use lib.ListN.{length, length-append}
 
 module _ (a : Arena) where
@@ -23,11 +23,11 @@ module _ (a : Arena) where
   passed-long v (m ∷ ms) = ap suc (passed-long (target-of a v m) ms)
 
   -- a voyage that is followed by one more move
-  pub voyage-push : (v : ℕ) (ms : List ℕ) (m : ℕ) → Voyage a v ms → m < degree-of a (reached a v ms) → Voyage a v (ms ++ (m ∷ []))
+  voyage-push : (v : ℕ) (ms : List ℕ) (m : ℕ) → Voyage a v ms → m < degree-of a (reached a v ms) → Voyage a v (ms ++ (m ∷ []))
   voyage-push v [] m f h = (h, tt)
   voyage-push v (n ∷ ms) m f h = (f .0, voyage-push (target-of a v n) ms m (f .1) h)
 
-  pub follows-push : (plan : Plan) (v : ℕ) (ms : List ℕ) (m : ℕ) → Follows a plan v ms →
+  follows-push : (plan : Plan) (v : ℕ) (ms : List ℕ) (m : ℕ) → Follows a plan v ms →
       (owner-of a (reached a v ms) ≡ 0 → m ≡ plan ms) → Follows a plan v (ms ++ (m ∷ []))
   follows-push plan v [] m f e = (e, tt)
   follows-push plan v (n ∷ ms) m f e = (f .0, follows-push (λ past. plan (n ∷ past)) (target-of a v n) ms m (f .1) e)
@@ -95,3 +95,42 @@ module _ (a : Arena) where
     pub open-end : (v : ℕ) (xs : List ℕ) → answers a q v ≡ false → unanswered a q v xs ≡ true → answers a q (reached a v xs) ≡ false
     open-end v [] n e = n
     open-end v (x ∷ xs) n e = let r = unanswered-first v x xs e in open-end (target-of a v x) xs (r .0) (r .1)
+
+-- a voyage of n moves that follows the plan, and of which Against holds
+pub record Sailed (a : Arena) (plan : Plan) (v : ℕ) (Against : List ℕ → Type 0) (n : ℕ) : Type 0 where
+  pub moves : List ℕ
+  pub long : length moves ≡ n
+  pub voyage : Voyage a v moves
+  pub follows : Follows a plan v moves
+  pub against : Against moves
+
+-- where every vertex has a move, such a voyage can be as long as one likes, if the harbour can
+-- always go on
+module _ (a : Arena) (r : Ranged a) (mv : (v : ℕ) → v < size a → 0 < degree-of a v) (plan : Plan) (v : ℕ) (hv : v < size a) (picks : Picks a plan v)
+    (Against : List ℕ → Type 0) (begin : Against [])
+    (ours : (ms : List ℕ) (m : ℕ) → Against ms → owner-of a (reached a v ms) ≡ 0 → m < degree-of a (reached a v ms) → Against (ms ++ (m ∷ [])))
+    (theirs : (ms : List ℕ) → Against ms → owner-of a (reached a v ms) ≡ 1 → (m : ℕ) × (m < degree-of a (reached a v ms)) × Against (ms ++ (m ∷ []))) where
+  reached-low : (x : ℕ) (ms : List ℕ) → x < size a → Voyage a x ms → reached a x ms < size a
+  reached-low x [] h f = h
+  reached-low x (m ∷ ms) h f = reached-low (target-of a x m) ms (target-low a r x m (f .0)) (f .1)
+
+  pub sail : (n : ℕ) → Sailed a plan v Against n
+  sail zero = record { moves = []; long = refl; voyage = tt; follows = tt; against = begin }
+  sail (suc n) =
+      let t = sail n in
+      let ms : List ℕ = t .moves in
+      let x : ℕ = reached a v ms in
+      let on : (m : ℕ) → m < degree-of a x → (owner-of a x ≡ 0 → m ≡ plan ms) → Against (ms ++ (m ∷ [])) → Sailed a plan v Against (suc n) =
+      λ m h p q. record {
+        moves = ms ++ (m ∷ []);
+        long = length-append ms (m ∷ []) ∙ (let z = t .long in omega arith);
+        voyage = voyage-push a v ms m (t .voyage) h;
+        follows = follows-push a plan v ms m (t .follows) p;
+        against = q;
+      } in
+      elim (ℕ-discrete (owner-of a x) 0) [
+        | yes o ↦
+            let h : plan ms < degree-of a x = picks ms (t .voyage) (t .follows) o (mv x (reached-low v ms hv (t .voyage))) in
+            on (plan ms) h (λ z. refl) (ours ms (plan ms) (t .against) o h)
+        | no o ↦ let m = theirs ms (t .against) (owner-other a r x o) in on (m .0) (m .1) (λ z. absurd (o z)) (m .2)
+      ]

@@ -1,25 +1,24 @@
--- Waits under a safe plan: loops cost nothing while a request waits, so they can be cut out, and what is left has
--- fewer moves than the chart has vertices.
+-- Waits under a safe plan: loops cost nothing while a request waits, so they can be cut out, and
+-- what is left has fewer moves than the chart has vertices.
 use Rattle.chart.specs.Arena.{Arena, size, Ranged}
-use Rattle.walks.specs.Games.{Step, Walk, last, step, Reaches, Inside, Loop}
-use Rattle.walks.specs.Showings.{Next, Chain, same, tally, Shows}
+use Rattle.walks.specs.Games.{Reaches, Inside}
+use Rattle.walks.specs.Showings.{Next, Chain, tally, Shows}
 use Rattle.walks.proofs.Walks.{walk-first, reach-after, reach-join}
 use Rattle.walks.proofs.Long.{few-shown, chain-back, chain-front, all-back, all-front, pigeons, Twice}
-use Rattle.game.specs.Reading.{owner-of, colour-of, degree-of, target-of, cost-of, game-of}
-use Rattle.game.specs.Voyages.{Voyage, reached, passed, requests, answers, wait, wait-at, worst-wait, unanswered}
+use Rattle.game.specs.Reading.{owner-of, colour-of, degree-of, target-of, cost-of}
+use Rattle.game.specs.Voyages.{reached, passed, answers, wait, unanswered}
 use Rattle.game.specs.Claims.{PlanStep, WaitingStep, CostlyLoop, SafePlan}
 use Rattle.theory.specs.Sailing.{Sails}
-use Rattle.theory.proofs.Sailing.{reached-join, passed-long, sails-join, sails-apart, Stop, stop, unanswered-first, wait-join, open-end}
+use Rattle.theory.proofs.Sailing.{passed-long, sails-join, sails-apart, Stop, stop, unanswered-first, wait-join, open-end}
 use Rattle.std.specs.shelf.Lists.{All}
 use Rattle.std.proofs.shelf.Elements.{all-weaker}
 use mathlib.Core.Path.{_≡_, refl, sym, subst, ap, _∙_}
 use mathlib.Core.Bool.{Bool, true, false, cond, _&&_, not}
 use mathlib.Core.Logic.{_⊎_, inl, inr}
 use mathlib.Core.List.{List, [], _∷_, _++_}
-use Prim.Native.Nat.{ℕ, zero, suc, _+_, _*_, _%_, _≤_, _<_, max}
+use Prim.Native.Nat.{ℕ, zero, suc, _+_, _%_, _≤_, _<_}
 use native.Mathlib.Omega.{arith}
 use native.Mathlib.Decide.{ℕ-discrete, decLe}
-use lib.Dec.{eqb, ltb}
 use lib.ListN.{length, length-append}
 
 tally-all : (xs : List ℕ) → tally (λ x. 1) xs ≡ length xs

@@ -13,7 +13,8 @@ Spot a p = p < positions a
 abbrev pub Stable : Arena → ℕ → ℕ → Type 0
 Stable a v l = (l ≤ a .height / 2) × (arrive l (colour-of a v) ≡ l)
 
--- The marked vertices are those with a stable level that W has, and best v is the greatest such level.
+-- The marked vertices are those with a stable level that W has, and best v is the greatest such
+-- level.
 pub record Best (a : Arena) (W : ℕ → Type 0) (Marked : ℕ → Type 0) (best : ℕ → ℕ) : Type 0 where
   pub there : (v : ℕ) → Marked v → v < size a
   pub stable : (v : ℕ) → Marked v → Stable a v (best v)

@@ -3,11 +3,9 @@ use Rattle.walks.specs.Games.{Game, Step, Descends}
 use Rattle.walks.specs.Tables.{In, put, cut, over, members, Pulls, Leaks, Drawing}
 use mathlib.Core.Path.{_≡_, refl, sym, subst, ap, _∙_}
 use mathlib.Core.Logic.{_⊎_, inl, inr}
-use mathlib.Core.Bool.{cond}
-use Prim.Native.Nat.{ℕ, zero, suc, _+_, _≤_, _<_}
+use Prim.Native.Nat.{ℕ, zero, suc, _≤_, _<_}
 use native.Mathlib.Omega.{arith}
 use native.Mathlib.Decide.{ℕ-discrete}
-use lib.Dec.{eqb}
 
 pub put-at : (u : ℕ → ℕ) (p v x : ℕ) → x ≡ p → put u p v x ≡ v
 unfolding put

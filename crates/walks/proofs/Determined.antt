@@ -1,15 +1,16 @@
--- Every finite parity game splits into what the one player and what the other keeps, each by one strategy
--- table. By recursion: the attractor of the highest colour is cut off, the rest is solved, and if the other
--- player keeps a part of it, that part with its attractor is cut off and the rest is solved again.
-use Rattle.walks.specs.Games.{Game, Step, Walk, Inside, Loop, Keeps, Descends, AtTop, Trap, Split}
-use Rattle.walks.specs.Tables.{In, put, cut, over, members, Total}
+-- Every finite parity game splits into what the one player and what the other keeps, each by one
+-- strategy table. By recursion: the attractor of the highest colour is cut off, the rest is solved,
+-- and if the other player keeps a part of it, that part with its attractor is cut off and the rest
+-- is solved again.
+use Rattle.walks.specs.Games.{Game, Keeps, Descends, AtTop, Trap, Split}
+use Rattle.walks.specs.Tables.{In, cut, over, members, Total}
 use Rattle.walks.proofs.Walks.{walk-map}
-use Rattle.walks.proofs.Keeping.{attractor-kept, whole-kept, trap-kept, other-split, same-kept}
+use Rattle.walks.proofs.Keeping.{whole-kept, other-split, same-kept}
 use Rattle.walks.proofs.Attractors.{cut-in, cut-out, over-at, over-off, members-lt, find, Attractor, attractor}
 use mathlib.Core.Path.{_≡_, refl, sym, subst, ap, _∙_}
 use mathlib.Core.Logic.{_⊎_, inl, inr}
 use mathlib.Core.Bool.{cond}
-use Prim.Native.Nat.{ℕ, zero, suc, _+_, _-_, _%_, _≤_, _<_}
+use Prim.Native.Nat.{ℕ, zero, suc, _%_, _≤_, _<_}
 use native.Mathlib.Omega.{arith}
 use native.Mathlib.Decide.{ℕ-discrete, decLe}
 use native.Mathlib.Nat.{le-of-eq}

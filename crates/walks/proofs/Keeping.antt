@@ -1,10 +1,11 @@
--- What a player keeps, put together from parts: attractors, traps, and regions solved one after another.
-use Rattle.walks.specs.Games.{Game, Step, Walk, Inside, Loop, Keeps, Descends, AtTop, Trap, Split}
+-- What a player keeps, put together from parts: attractors, traps, and regions solved one after
+-- another.
+use Rattle.walks.specs.Games.{Game, Step, Inside, Keeps, Descends, AtTop, Trap, Split}
 use Rattle.walks.proofs.Walks.{walk-map, walk-falls, loop-sorts, walk-first}
-use mathlib.Core.Path.{_≡_, refl, sym, subst, ap, _∙_}
+use mathlib.Core.Path.{_≡_, sym, subst, ap, _∙_}
 use native.Mathlib.Decide.{ℕ-discrete}
 use mathlib.Core.Logic.{_⊎_, inl, inr}
-use Prim.Native.Nat.{ℕ, _+_, _%_, _≤_, _<_}
+use Prim.Native.Nat.{ℕ, _%_, _≤_, _<_}
 use native.Mathlib.Omega.{arith}
 
 -- what is drawn into W is kept with W: outside W ranks fall, so a loop lies in W
@@ -24,8 +25,8 @@ module _ (g : Game) (i : ℕ) (R : ℕ → Type 0) (s : ℕ → ℕ) (W : ℕ �
             ];
       }
 
--- the player of the highest colour d keeps all of R, where it keeps C and all else is drawn to colour d:
--- a loop outside C meets d, which is good for it
+-- the player of the highest colour d keeps all of R, where it keeps C and all else is drawn to
+-- colour d: a loop outside C meets d, which is good for it
 module _ (g : Game) (i d : ℕ) (R : ℕ → Type 0) (s : ℕ → ℕ) (top : (p : ℕ) → R p → g .colour p ≤ d) (ours : d % 2 ≡ i) where
   pub whole-kept : (C A : ℕ → Type 0) (r : ℕ → ℕ) → Keeps g i C s C → ((p : ℕ) → C p → R p) → ((p : ℕ) → R p → A p ⊎ C p) →
       ((p : ℕ) → A p → AtTop g i d R s p ⊎ Descends g i R s r A p) → Keeps g i R s R
@@ -79,8 +80,8 @@ module _ (g : Game) (i : ℕ) (R B D : ℕ → Type 0) (s : ℕ → ℕ) (sort :
             ];
       }
 
--- j keeps W in the trap C; B is drawn into W; the rest D of R splits into X and Y: then R splits into X,
--- and B with Y
+-- j keeps W in the trap C; B is drawn into W; the rest D of R splits into X and Y: then R splits
+-- into X, and B with Y
 pub other-split : (g : Game) (i j : ℕ) (R C D W B X Y : ℕ → Type 0) (s r : ℕ → ℕ) →
     ((p : ℕ) → C p → R p) → Trap g j R C → Keeps g j C s W →
     ((p : ℕ) → W p → B p) → ((p : ℕ) → B p → R p) → ((p : ℕ) → B p → W p ⊎ Descends g j R s r B p) →

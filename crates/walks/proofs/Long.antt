@@ -1,9 +1,9 @@
--- A finite walk that is long enough shows some colour often, and only odd ones where no even position is
--- on a loop with no higher colour.
+-- A finite walk that is long enough shows some colour often, and only odd ones where no even
+-- position is on a loop with no higher colour.
 use Rattle.walks.specs.Games.{Walk, last, step, Inside, Loop}
-use Rattle.walks.specs.Showings.{Next, Chain, same, tally, Shows, limit}
+use Rattle.walks.specs.Showings.{Chain, same, tally, Shows, limit}
 use Rattle.std.specs.shelf.Lists.{All}
-use Rattle.std.proofs.shelf.Elements.{all-append, all-push, all-weaker}
+use Rattle.std.proofs.shelf.Elements.{all-push, all-weaker}
 use mathlib.Core.Path.{_≡_, refl, sym, subst, ap, _∙_}
 use mathlib.Core.Logic.{_⊎_, inl, inr}
 use mathlib.Core.Bool.{Bool, true, false, cond}
@@ -75,6 +75,10 @@ pub tally-split : (f g h : ℕ → ℕ) → ((x : ℕ) → f x ≤ g x + h x) �
 tally-split f g h le [] = omega arith
 tally-split f g h le (x ∷ xs) = let a = le x in let b = tally-split f g h le xs in omega arith
 
+pub tally-join : (f : ℕ → ℕ) (xs ys : List ℕ) → tally f (xs ++ ys) ≡ tally f xs + tally f ys
+tally-join f [] ys = omega arith
+tally-join f (x ∷ xs) ys = let h = tally-join f xs ys in omega arith
+
 pub tally-none : (f : ℕ → ℕ) (xs : List ℕ) → All (λ x. f x ≡ 0) xs → tally f xs ≡ 0
 tally-none f [] a = refl
 tally-none f (x ∷ xs) a = let h = tally-none f xs (a .1) in omega arith
@@ -125,7 +129,7 @@ all-back Q [] ys a = a
 all-back Q (x ∷ xs) ys a = all-back Q xs ys (a .1)
 
 module _ (colour : ℕ → ℕ) (K : ℕ) where
-  shown-back : (xs ys : List ℕ) → Shows colour K ys → Shows colour K (xs ++ ys)
+  pub shown-back : (xs ys : List ℕ) → Shows colour K ys → Shows colour K (xs ++ ys)
   shown-back xs ys w = record {
     shown = w .shown;
     odd = w .odd;
@@ -137,7 +141,7 @@ module _ (colour : ℕ → ℕ) (K : ℕ) where
     often = w .often;
   }
 
-  shown-front : (xs ys : List ℕ) → Shows colour K xs → Shows colour K (xs ++ ys)
+  pub shown-front : (xs ys : List ℕ) → Shows colour K xs → Shows colour K (xs ++ ys)
   shown-front xs ys w = record {
     shown = w .shown;
     odd = w .odd;
@@ -166,7 +170,8 @@ few-shown E colour P c xs fair ch low under =
       | inr h ↦ h
     ]
 
--- where no even position is on a loop with no higher colour, every walk of a computed length shows an odd colour more than K times
+-- where no even position is on a loop with no higher colour, every walk of a computed length shows
+-- an odd colour more than K times
 module _ (E : ℕ → ℕ → Type 0) (colour : ℕ → ℕ) (P K : ℕ) (fair : (p : ℕ) → colour p % 2 ≡ 0 → ¬ Loop colour E p) where
   -- a part whose colours are below c
   Short : ℕ → ℕ → Type 0
