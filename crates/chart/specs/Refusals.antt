@@ -3,7 +3,7 @@ use Prim.Native.Nat.{ℕ}
 use Rattle.std.specs.declared.result.Result.{Result}
 use Rattle.std.specs.declared.result.Result.the-variants.{Ok, Err}
 use Rattle.chart.specs.declared.refusal.Refusal.{Refusal}
-use Rattle.chart.specs.declared.refusal.Refusal.the-variants.{UnknownOwner, ColourTooHigh, TooManyVertices, AbsentVertex, CostTooHigh, TooManyMoves, AbsentMove}
+use Rattle.chart.specs.declared.refusal.Refusal.the-variants.{UnknownOwner, ColourTooHigh, TooManyVertices, AbsentVertex, CostTooHigh, TooManyMoves, AbsentMove, ShortTable, WrongPlanEntry, UnmarkedStart, TooManySteps}
 
 abbrev pub number-of : Refusal → ℕ
 number-of UnknownOwner = 1
@@ -13,6 +13,10 @@ number-of AbsentVertex = 4
 number-of CostTooHigh = 5
 number-of TooManyMoves = 6
 number-of AbsentMove = 7
+number-of ShortTable = 10
+number-of (WrongPlanEntry v) = 13
+number-of UnmarkedStart = 21
+number-of TooManySteps = 22
 
 -- 0 where the rule names no place.
 abbrev pub place-of : Refusal → ℕ
@@ -23,6 +27,10 @@ place-of AbsentVertex = 0
 place-of CostTooHigh = 0
 place-of TooManyMoves = 0
 place-of AbsentMove = 0
+place-of ShortTable = 0
+place-of (WrongPlanEntry v) = v
+place-of UnmarkedStart = 0
+place-of TooManySteps = 0
 
 -- How a call ends: it is done and answers, or it is refused with a number and a place.
 pub data Outcome (A : Type 0) : Type 0 where

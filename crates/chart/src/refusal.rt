@@ -12,6 +12,10 @@ pub enum Refusal {
     CostTooHigh,
     TooManyMoves,
     AbsentMove,
+    ShortTable,
+    WrongPlanEntry(usize),
+    UnmarkedStart,
+    TooManySteps,
 }
 
 impl Refusal {
@@ -27,6 +31,10 @@ impl Refusal {
             Refusal::CostTooHigh => 5,
             Refusal::TooManyMoves => 6,
             Refusal::AbsentMove => 7,
+            Refusal::ShortTable => 10,
+            Refusal::WrongPlanEntry(_) => 13,
+            Refusal::UnmarkedStart => 21,
+            Refusal::TooManySteps => 22,
         }
     }
 
@@ -42,6 +50,10 @@ impl Refusal {
             Refusal::CostTooHigh => 0,
             Refusal::TooManyMoves => 0,
             Refusal::AbsentMove => 0,
+            Refusal::ShortTable => 0,
+            Refusal::WrongPlanEntry(vertex) => vertex,
+            Refusal::UnmarkedStart => 0,
+            Refusal::TooManySteps => 0,
         }
     }
 }
