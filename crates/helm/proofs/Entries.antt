@@ -37,7 +37,7 @@ module _ (k : ℕ) (xs ys : List ℕ) (i : ℕ) (e : ys ≡ arrived k 1 (take i 
       let is : ys ≡ front ++ y ∷ drop (i + 1) xs = e ∙ ap (λ zs. front ++ zs) (drop-more xs i 0 h) in
       let here : getD ys i 0 ≡ y = ap (λ zs. getD zs i 0) is ∙ getD-at front y (drop (i + 1) xs) 0 i wide in
       let more : arrived k 1 (take (i + 1) xs) ≡ front ++ met k (2 * i + 1) y ∷ [] =
-            ap (arrived k 1) (take-more xs i 0 h) ∙ (arrived-push k 1 (take i xs) y ∙ ap (λ n. front ++ met k (2 * n + 1) y ∷ []) long) in
+      ap (arrived k 1) (take-more xs i 0 h) ∙ (arrived-push k 1 (take i xs) y ∙ ap (λ n. front ++ met k (2 * n + 1) y ∷ []) long) in
       ap (λ z. set ys i (met k (2 * i + 1) z)) here
       ∙ (ap (λ zs. set zs i (met k (2 * i + 1) y)) is
       ∙ (set-at front y (drop (i + 1) xs) (met k (2 * i + 1) y) i wide

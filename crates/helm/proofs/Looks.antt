@@ -48,3 +48,29 @@ module _ (a : Arena) (v : ℕ) where
   pub owner-none : None ≡ mapped (λ x. x .owner) (vertex-at a v) → 0 ≡ owner-of a v
   unfolding owner-of
   owner-none e = sym (ap (λ x. x .owner) (unread (λ x. x .owner) _ refl e))
+
+module _ (a : Arena) (v m : ℕ) where
+  absent : (o : Option Vertex) → vertex-at a v ≡ o → None ≡ and-then o (λ x. nth (x .moves) m) → length (row a v .moves) ≤ m
+  absent None e h = let k = ap (λ x. length (x .moves)) (row-past a v (nth-none (a .vertices) v no-vertex e)) in omega arith
+  absent (Some x) e h = let k = ap (λ x. length (x .moves)) (row-is a v x e) in let l = nth-none (x .moves) m no-move (sym h) in omega arith
+
+  pub move-none : None ≡ move-at a v m → degree-of a v ≤ m
+  unfolding degree-of
+  move-none e = absent _ refl e
+
+  -- a move that the chart answers
+  pub record Moves (y : Move) : Type 0 where
+    pub there : m < degree-of a v
+    pub target : y .target ≡ target-of a v m
+    pub cost : y .cost ≡ cost-of a v m
+
+  present : (y : Move) (o : Option Vertex) → vertex-at a v ≡ o → Some y ≡ and-then o (λ x. nth (x .moves) m) → Moves y
+  present y None e h = absurd (let z : _≡_ {A = ℕ} 0 1 = cc in omega arith)
+  present y (Some x) e h = record {
+    there = (let k = degree-is a v x e in let l = nth-low (x .moves) m y (sym h) in omega arith);
+    target = sym (target-is a v x e m y (sym h));
+    cost = sym (cost-is a v x e m y (sym h));
+  }
+
+  pub move-some : (y : Move) → Some y ≡ move-at a v m → Moves y
+  move-some y e = present y _ refl e

@@ -31,12 +31,13 @@ state-begun a start ts =
 -- The state after a move to v at that cost, with the moves made, the worst wait and the tally before it.
 abbrev pub sailed : Arena → ℕ → ℕ → ℕ → ℕ → List ℕ → State
 sailed a v cost moves worst ts =
-    record
-      { turn = owner-of a v
-      ; vertex = v
-      ; moves = moves + 1
-      ; worst = max worst (longest (map (grown cost) (take (half a) ts)))
-      ; waiting = highest-open 1 (waits-passed cost (colour-of a v) (take (half a) ts)) }
+    record {
+      turn = owner-of a v;
+      vertex = v;
+      moves = moves + 1;
+      worst = max worst (longest (map (grown cost) (take (half a) ts)));
+      waiting = highest-open 1 (waits-passed cost (colour-of a v) (take (half a) ts));
+    }
 
 -- The state after move m of the state's vertex.
 abbrev pub state-moved : Arena → State → ℕ → List ℕ → State

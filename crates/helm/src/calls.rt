@@ -94,7 +94,12 @@ fn sail<C: Chart>(chart: &C, tally: &mut [u64], step: Move, moves: u32, worst: u
 
 /// Begins a voyage at a marked vertex: clears the tally's used entries, opens
 /// the start's request, and gives the turn of whoever owns the start and the slip.
-pub fn begin<C: Chart>(chart: &C, marks: &[u8], tally: &mut [u64], start: usize) -> Result<(Turn, Slip), Refusal>
+pub fn begin<C: Chart>(
+    chart: &C,
+    marks: &[u8],
+    tally: &mut [u64],
+    start: usize,
+) -> Result<(Turn, Slip), Refusal>
     ensures answer { λ r. ⌜ begun r ≡ begin-outcome (C·Chart .meaning (now (chart .entry))) (now (marks .entry)) (now (tally .entry)) start ⌝ }
     ensures after { λ _. ⌜ now (tally .exit) ≡ begin-tally (C·Chart .meaning (now (chart .entry))) (now (marks .entry)) (now (tally .entry)) start ⌝ }
 {
@@ -111,7 +116,12 @@ pub fn begin<C: Chart>(chart: &C, marks: &[u8], tally: &mut [u64], start: usize)
 }
 
 /// Makes the plan's move and gives the next turn. A refusal gives the turn back.
-pub fn steer<C: Chart>(turn: OurTurn, chart: &C, plan: &[u16], tally: &mut [u64]) -> Result<Turn, (OurTurn, Refusal)>
+pub fn steer<C: Chart>(
+    turn: OurTurn,
+    chart: &C,
+    plan: &[u16],
+    tally: &mut [u64],
+) -> Result<Turn, (OurTurn, Refusal)>
     ensures answer { λ r. ⌜ steered r ≡ steer-reply (C·Chart .meaning (now (chart .entry))) (now (plan .entry)) (now (tally .entry)) (ours turn) ⌝ }
     ensures after { λ _. ⌜ now (tally .exit) ≡ steer-tally (C·Chart .meaning (now (chart .entry))) (now (plan .entry)) (now (tally .entry)) (ours turn) ⌝ }
 {
@@ -131,7 +141,12 @@ pub fn steer<C: Chart>(turn: OurTurn, chart: &C, plan: &[u16], tally: &mut [u64]
 }
 
 /// Makes the harbour's move and gives the next turn. A refusal gives the turn back.
-pub fn hear<C: Chart>(turn: HarbourTurn, chart: &C, number: usize, tally: &mut [u64]) -> Result<Turn, (HarbourTurn, Refusal)>
+pub fn hear<C: Chart>(
+    turn: HarbourTurn,
+    chart: &C,
+    number: usize,
+    tally: &mut [u64],
+) -> Result<Turn, (HarbourTurn, Refusal)>
     ensures answer { λ r. ⌜ heard r ≡ hear-reply (C·Chart .meaning (now (chart .entry))) number (now (tally .entry)) (harbours turn) ⌝ }
     ensures after { λ _. ⌜ now (tally .exit) ≡ hear-tally (C·Chart .meaning (now (chart .entry))) number (now (tally .entry)) (harbours turn) ⌝ }
 {
@@ -156,7 +171,29 @@ pub fn finish(turn: Turn, slip: Slip) -> Record
 {
     let Slip { seal: _ } = slip;
     match turn {
-        Turn::Ours(OurTurn { vertex: _, moves, worst, waiting }) => Record { moves, worst, waiting },
-        Turn::Harbours(HarbourTurn { vertex: _, moves, worst, waiting }) => Record { moves, worst, waiting },
+        Turn::Ours(
+            OurTurn {
+                vertex: _,
+                moves,
+                worst,
+                waiting,
+            },
+        ) => Record {
+            moves,
+            worst,
+            waiting,
+        },
+        Turn::Harbours(
+            HarbourTurn {
+                vertex: _,
+                moves,
+                worst,
+                waiting,
+            },
+        ) => Record {
+            moves,
+            worst,
+            waiting,
+        },
     }
 }

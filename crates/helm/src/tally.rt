@@ -29,7 +29,11 @@ fn meet(colour: u8, own: u8, entry: u64) -> u64
     ensures { λ r. ⌜ r ≡ met colour own entry ⌝ }
 {
     if colour % 2 == 1 {
-        if own == colour && entry == 0 { 1 } else { entry }
+        if own == colour && entry == 0 {
+            1
+        } else {
+            entry
+        }
     } else if own < colour {
         0
     } else {

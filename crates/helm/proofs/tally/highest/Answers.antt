@@ -12,7 +12,7 @@ use Rattle.helm.proofs.tally.highest.Needs as need
 use Rattle.helm.proofs.tally.highest.Needs.{then-entry-gt0, else-entry-gt0}
 
 module _ (xs : List ℕ) (i top : ℕ) (h : i < length xs) (low : top ≤ 2 * i)
-         (e : max top (highest-open (2 * i + 1) (drop i xs)) ≡ highest-open 1 xs) where
+    (e : max top (highest-open (2 * i + 1) (drop i xs)) ≡ highest-open 1 xs) where
   abbrev Next : ℕ → Type 0
   Next t = (t ≤ 2 * (i + 1)) × (max t (highest-open (2 * (i + 1) + 1) (drop (i + 1) xs)) ≡ highest-open 1 xs)
 
