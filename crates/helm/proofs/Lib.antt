@@ -1,3 +1,6 @@
 pub mod Entries
 pub mod Looks
 pub mod Replies
+pub mod Oldest
+pub mod Worst
+pub mod Told

@@ -76,11 +76,13 @@ pub record RecordOf (a : Arena) (plan : List ℕ) (start : ℕ) (ms : List ℕ) 
   pub worst : r .worst ≡ worst-wait a start ms
   pub waiting : r .waiting ≡ highest-waiting a start ms
 
--- After a begin that was not refused, with the state s, and a list of calls as the turns fall, refused ones included, with one
--- chart, plan and tally that nothing else changes: what finish gives is the record of the voyage made by the calls that were
--- not refused.
+-- From where a run stands, the start of a voyage: after a list of calls as the turns fall, refused ones included, with one chart,
+-- plan and tally that nothing else changes, what finish gives is the record of the voyage made by the calls that were not refused.
+abbrev pub Recorded : Arena → List ℕ → ℕ → Run → Type 0
+Recorded a plan start r = (cs : List Call) → AsTurnsFall a plan r cs → RecordOf a plan start (made a plan r cs) (finished (after-all a plan r cs .state))
+
+-- So it is after every begin that was not refused, on every chart.
 abbrev pub RecordsTheVoyage : Type 0
 RecordsTheVoyage =
     (a : Arena) → Ranged a → (marks plan tally : List ℕ) (start : ℕ) (s : State) → begin-outcome a marks tally start ≡ done s →
-    (r : Run) → r ≡ record { state = s; tally = begin-tally a marks tally start } → (cs : List Call) → AsTurnsFall a plan r cs →
-    RecordOf a plan start (made a plan r cs) (finished (after-all a plan r cs .state))
+    Recorded a plan start (record { state = s; tally = begin-tally a marks tally start })
