@@ -4,3 +4,4 @@ pub mod Replies
 pub mod Oldest
 pub mod Worst
 pub mod Told
+pub mod Standing

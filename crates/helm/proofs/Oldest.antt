@@ -95,7 +95,7 @@ module _ (a : Arena) (q : ℕ) where
       one false = omega arith
   oldest-low v (m ∷ ms) e =
       low-step (eqb (colour-of a v) q) (answers a q (target-of a v m)) (unanswered a q (target-of a v m) ms) (cost-of a v m) (wait a q (target-of a v m) ms)
-        (oldest (target-of a v m) ms) e (oldest-low (target-of a v m) ms)
+      (oldest (target-of a v m) ms) e (oldest-low (target-of a v m) ms)
     where
       low-step : (b x u : Bool) (c w r : ℕ) → (not x && u) ≡ true → (u ≡ true → r ≤ suc w) → cond (b && (not x && u)) (suc (c + cond x 0 w)) r ≤ suc (c + cond x 0 w)
       low-step b true u c w r e h = absurd (let z : _≡_ {A = ℕ} 0 1 = cc in omega arith)
@@ -107,7 +107,7 @@ module _ (a : Arena) (q : ℕ) where
   pub oldest-falls : (v m : ℕ) (ms : List ℕ) → oldest (target-of a v m) ms ≤ oldest v (m ∷ ms)
   oldest-falls v m ms =
       falls-step (eqb (colour-of a v) q) (answers a q (target-of a v m)) (unanswered a q (target-of a v m) ms) (cost-of a v m) (wait a q (target-of a v m) ms)
-        (oldest (target-of a v m) ms) (oldest-low (target-of a v m) ms)
+      (oldest (target-of a v m) ms) (oldest-low (target-of a v m) ms)
     where
       falls-step : (b x u : Bool) (c w r : ℕ) → (u ≡ true → r ≤ suc w) → r ≤ cond (b && (not x && u)) (suc (c + cond x 0 w)) r
       falls-step false x u c w r h = omega arith

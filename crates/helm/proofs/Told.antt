@@ -164,11 +164,11 @@ module _ (a : Arena) (r : Ranged a) (v : ℕ) (ms xs : List ℕ) (tells : Tells 
         let up = worst-within a now-worst v ms m (omega arith) (λ q odd. colour-within q odd (oldest a q v ms) refl) in
         let grows = worst-grows a v ms m in
         let down = longest-within (worst-wait a v (ms ++ m ∷ [])) (map (grown c) xs) (λ i h.
-              let wide = length-map xs (grown c) in
-              let odd : (2 * i + 1) % 2 ≡ 1 = omega arith in
-              let w = worst-met a (2 * i + 1) odd v ms m in
-              let g = grown-here i (omega arith) in
-              omega arith) in
+        let wide = length-map xs (grown c) in
+        let odd : (2 * i + 1) % 2 ≡ 1 = omega arith in
+        let w = worst-met a (2 * i + 1) odd v ms m in
+        let g = grown-here i (omega arith) in
+        omega arith) in
         omega arith
 
     pub tells-moved : Tells a v (ms ++ m ∷ []) (waits-passed c k xs)

@@ -1,4 +1,4 @@
-ghost use Prim.Native.Nat.{_≤_, max};
+ghost use Prim.Native.Nat.{_-_, _≤_, max};
 ghost use mathlib.Core.List.{map};
 ghost use mathlib.Core.Path.{_≡_};
 ghost use lib.ListN.{length};
@@ -57,13 +57,20 @@ pub fn greater(a: u64, b: u64) -> u64
     a.max(b)
 }
 
+/// The greater of `most` and the wait of an entry.
+fn with_wait(most: u64, entry: u64) -> u64
+    ensures { λ r. ⌜ r ≡ max most (entry - 1) ⌝ }
+{
+    greater(most, entry.saturating_sub(1))
+}
+
 /// The greatest wait among the entries, 0 for none.
 fn longest(waits: &[u64]) -> u64
     ensures { λ r. ⌜ r ≡ longestOf (now (waits .entry)) ⌝ }
 {
     let mut most = 0;
     for entry in waits {
-        most = greater(most, entry.saturating_sub(1));
+        most = with_wait(most, *entry);
     }
     most
 }
@@ -84,13 +91,13 @@ fn highest(waits: &[u64]) -> u8
 
 /// Clears the entries and opens the request of the first colour; answers the
 /// highest colour that then waits.
-pub fn open(waits: &mut [u64], colour: u8) -> u8
+pub fn open(waits: &mut [u64], first: u8) -> u8
     requires { ⌜ length (now waits) ≤ 127 ⌝ }
-    ensures after { λ _. ⌜ now (waits .exit) ≡ arrived colour 1 (cleared (now (waits .entry))) ⌝ }
-    ensures answer { λ r. ⌜ r ≡ highest-open 1 (arrived colour 1 (cleared (now (waits .entry)))) ⌝ }
+    ensures after { λ _. ⌜ now (waits .exit) ≡ arrived first 1 (cleared (now (waits .entry))) ⌝ }
+    ensures answer { λ r. ⌜ r ≡ highest-open 1 (arrived first 1 (cleared (now (waits .entry)))) ⌝ }
 {
     clear(waits);
-    arrive(waits, colour);
+    arrive(waits, first);
     highest(waits)
 }
 
