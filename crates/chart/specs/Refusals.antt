@@ -3,7 +3,7 @@ use Prim.Native.Nat.{ℕ}
 use Rattle.std.specs.declared.result.Result.{Result}
 use Rattle.std.specs.declared.result.Result.the-variants.{Ok, Err}
 use Rattle.chart.specs.declared.refusal.Refusal.{Refusal}
-use Rattle.chart.specs.declared.refusal.Refusal.the-variants.{UnknownOwner, ColourTooHigh, TooManyVertices, AbsentVertex, CostTooHigh, TooManyMoves, AbsentMove, WrongLine, ShortBuffer}
+use Rattle.chart.specs.declared.refusal.Refusal.the-variants.{UnknownOwner, ColourTooHigh, TooManyVertices, AbsentVertex, CostTooHigh, TooManyMoves, AbsentMove, DeadEnd, ShortTable, ShortMemory, WrongPlanEntry, UnmarkedStart, TooManySteps, WrongLine, ShortBuffer}
 
 abbrev pub number-of : Refusal → ℕ
 number-of UnknownOwner = 1
@@ -13,6 +13,12 @@ number-of AbsentVertex = 4
 number-of CostTooHigh = 5
 number-of TooManyMoves = 6
 number-of AbsentMove = 7
+number-of (DeadEnd vertex) = 8
+number-of ShortTable = 10
+number-of ShortMemory = 11
+number-of (WrongPlanEntry vertex) = 13
+number-of UnmarkedStart = 21
+number-of TooManySteps = 22
 number-of (WrongLine line) = 23
 number-of ShortBuffer = 24
 
@@ -25,6 +31,12 @@ place-of AbsentVertex = 0
 place-of CostTooHigh = 0
 place-of TooManyMoves = 0
 place-of AbsentMove = 0
+place-of (DeadEnd vertex) = vertex
+place-of ShortTable = 0
+place-of ShortMemory = 0
+place-of (WrongPlanEntry vertex) = vertex
+place-of UnmarkedStart = 0
+place-of TooManySteps = 0
 place-of (WrongLine line) = line
 place-of ShortBuffer = 0
 
