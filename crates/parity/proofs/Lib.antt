@@ -1,0 +1,3 @@
+pub mod Counts
+pub mod Drawings
+pub mod Sweeps

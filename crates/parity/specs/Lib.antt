@@ -1,0 +1,3 @@
+pub mod Attractors
+pub mod Boards
+pub mod Sheets
