@@ -1,3 +1,4 @@
 pub mod Counts
 pub mod Drawings
+pub mod Highest
 pub mod Sweeps

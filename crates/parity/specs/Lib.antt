@@ -1,3 +1,4 @@
 pub mod Attractors
 pub mod Boards
+pub mod Rounds
 pub mod Sheets
