@@ -2,3 +2,4 @@ pub mod Attractors
 pub mod Boards
 pub mod Rounds
 pub mod Sheets
+pub mod Solving

@@ -2,6 +2,7 @@ ghost use mathlib.Core.Path.{_≡_};
 ghost use Rattle.parity.specs.Boards.{Board, Ranged};
 
 pub mod attractor;
+pub mod recursion;
 pub mod round;
 
 /// A finite parity game. The highest colour that comes again and again decides a play: even is good
