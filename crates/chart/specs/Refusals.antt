@@ -3,7 +3,7 @@ use Prim.Native.Nat.{ℕ}
 use Rattle.std.specs.declared.result.Result.{Result}
 use Rattle.std.specs.declared.result.Result.the-variants.{Ok, Err}
 use Rattle.chart.specs.declared.refusal.Refusal.{Refusal}
-use Rattle.chart.specs.declared.refusal.Refusal.the-variants.{UnknownOwner, ColourTooHigh, TooManyVertices, AbsentVertex, CostTooHigh, TooManyMoves, AbsentMove}
+use Rattle.chart.specs.declared.refusal.Refusal.the-variants.{UnknownOwner, ColourTooHigh, TooManyVertices, AbsentVertex, CostTooHigh, TooManyMoves, AbsentMove, DeadEnd, ShortTable, ShortMemory}
 
 abbrev pub number-of : Refusal → ℕ
 number-of UnknownOwner = 1
@@ -13,6 +13,9 @@ number-of AbsentVertex = 4
 number-of CostTooHigh = 5
 number-of TooManyMoves = 6
 number-of AbsentMove = 7
+number-of (DeadEnd place) = 8
+number-of ShortTable = 10
+number-of ShortMemory = 11
 
 -- 0 where the rule names no place.
 abbrev pub place-of : Refusal → ℕ
@@ -23,6 +26,9 @@ place-of AbsentVertex = 0
 place-of CostTooHigh = 0
 place-of TooManyMoves = 0
 place-of AbsentMove = 0
+place-of (DeadEnd place) = place
+place-of ShortTable = 0
+place-of ShortMemory = 0
 
 -- How a call ends: it is done and answers, or it is refused with a number and a place.
 pub data Outcome (A : Type 0) : Type 0 where

@@ -12,6 +12,9 @@ pub enum Refusal {
     CostTooHigh,
     TooManyMoves,
     AbsentMove,
+    DeadEnd(usize),
+    ShortTable,
+    ShortMemory,
 }
 
 impl Refusal {
@@ -27,6 +30,9 @@ impl Refusal {
             Refusal::CostTooHigh => 5,
             Refusal::TooManyMoves => 6,
             Refusal::AbsentMove => 7,
+            Refusal::DeadEnd(_) => 8,
+            Refusal::ShortTable => 10,
+            Refusal::ShortMemory => 11,
         }
     }
 
@@ -42,6 +48,9 @@ impl Refusal {
             Refusal::CostTooHigh => 0,
             Refusal::TooManyMoves => 0,
             Refusal::AbsentMove => 0,
+            Refusal::DeadEnd(place) => place,
+            Refusal::ShortTable => 0,
+            Refusal::ShortMemory => 0,
         }
     }
 }

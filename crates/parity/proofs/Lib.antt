@@ -1,6 +1,8 @@
 pub mod Counts
 pub mod Drawings
 pub mod Highest
+pub mod Lowest
+pub mod Settling
 pub mod Steps
 pub mod Sweeps
 pub mod Topped

@@ -1,9 +1,11 @@
 ghost use mathlib.Core.Path.{_≡_};
 ghost use Rattle.parity.specs.Boards.{Board, Ranged};
 
-pub mod attractor;
-pub mod recursion;
-pub mod round;
+mod attractor;
+mod recursion;
+mod round;
+pub mod rows;
+pub mod solver;
 
 /// A finite parity game. The highest colour that comes again and again decides a play: even is good
 /// for player 0, odd for player 1. Every question is answered, in constant time; an answer past the
