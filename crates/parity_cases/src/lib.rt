@@ -55,6 +55,8 @@ pub fn refusal(winners: usize, moves: usize, memory: usize) -> Result<(), Refusa
 #[cfg(test)]
 mod tests {
     use super::*;
+    use chart::refusal::RefusalDebug;
+    use chart::refusal::RefusalPartialEq;
     use std::test::*;
 
     #[test]
