@@ -121,7 +121,7 @@ impl Plan {
                 self.size.wrapping_mul(COLOURS),
             )
                 / (self.size / COLOURS + 1),
-            Family::Way => if position % 1024 == 1023 {
+            Family::Way => if position.wrapping_add(1) == self.size {
                 10
             } else {
                 position % 10
@@ -243,15 +243,23 @@ fn toll(position: u64, number: u64) -> u64 {
     end.wrapping_mul(2).wrapping_add(1)
 }
 
-/// In a nest, where a move ends. An even position of a chain shows its colour and leads to the step
-/// before it; an odd one leads to itself, or up to the even one beside it.
+/// In a nest, where a move ends. An even position of a chain shows its colour and leads to the step before
+/// it. An odd one leads to itself, to the even one beside it, or to the last step of the next chain, so
+/// that the chains below are won anew each time that a chain above is.
 fn nested(size: u64, position: u64, number: u64) -> u64 {
     let double = 2 * (size / 20);
-    if double == 0 || chain_colour(size, position) == 0 || position % double < 2 {
+    let colour = chain_colour(size, position);
+    if double == 0 || colour == 0 {
         return position;
     }
-    if position % 2 == 0 {
-        return position - 1;
+    if position % 2 == 1 && number > 1 && colour < 10 {
+        return u64::from(colour)
+            .wrapping_mul(double)
+            .wrapping_add(double)
+            .wrapping_sub(2);
     }
-    if number == 0 { position } else { position - 1 }
+    if position % double < 2 || (position % 2 == 1 && number == 0) {
+        return position;
+    }
+    position - 1
 }
