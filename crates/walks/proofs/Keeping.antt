@@ -106,3 +106,24 @@ same-kept g i R U s t eq k =
   where
     back : (p q : ℕ) → U p → Step g i t p q → Step g i s p q
     back p q u e = (e .0, e .1, (λ o. e .2 o ∙ sym (eq p u)), e .3)
+
+-- what is kept depends only on which positions the region and the set have
+pub same-sets : (g : Game) (i : ℕ) (R S U V : ℕ → Type 0) (s : ℕ → ℕ) → ((p : ℕ) → R p → S p) → ((p : ℕ) → S p → R p) →
+    ((p : ℕ) → U p → V p) → ((p : ℕ) → V p → U p) → Keeps g i R s U → Keeps g i S s V
+same-sets g i R S U V s rs sr uv vu k =
+    record {
+      inside = λ p v. rs p (k .inside p (vu p v));
+      moves = λ p v o. (let m = k .moves p (vu p v) o in (m .0, rs _ (m .1)));
+      closed = λ p q v t e. uv q (k .closed p q (vu p v) (sr q t) e);
+      sound = λ p v bad loop. k .sound p (vu p v) bad (walk-map (λ x y e. (e .0, e .1, (vu x (e .2 .0), vu y (e .2 .1), e .2 .2))) loop);
+    }
+
+-- the empty set is kept
+pub none-kept : (g : Game) (i : ℕ) (R U : ℕ → Type 0) (s : ℕ → ℕ) → ((p : ℕ) → ¬ U p) → Keeps g i R s U
+none-kept g i R U s none =
+    record {
+      inside = λ p u. absurd (none p u);
+      moves = λ p u o. absurd (none p u);
+      closed = λ p q u r e. absurd (none p u);
+      sound = λ p u bad loop. none p u;
+    }

@@ -1,0 +1,9 @@
+pub mod Counts
+pub mod Drawings
+pub mod Highest
+pub mod Lowest
+pub mod Settling
+pub mod Steps
+pub mod Sweeps
+pub mod Topped
+pub mod Turns

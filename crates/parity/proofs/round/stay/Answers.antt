@@ -1,0 +1,23 @@
+use native.Mathlib.Omega.{arith}
+use Prim.Native.Nat.{ℕ, _<_, _≤_, _^_}
+use mathlib.Core.Path.{_≡_}
+use lib.ListN.{length}
+use Rattle.parity.proofs.round.stay.Needs as need
+
+pub offset-tags-end : need.offset-tags-end
+offset-tags-end g c =
+    let r = g .G·ParityGame .ranged (c .args .game .now) in
+    let h = r .targets (c .args .position) (c .loop-number .number) (omega arith) (omega arith) in
+    omega arith
+
+pub index-tags-end : need.index-tags-end
+index-tags-end g c =
+    let r = g .G·ParityGame .ranged (c .args .game .now) in
+    let h = r .targets (c .args .position) (c .loop-number .number) (omega arith) (omega arith) in
+    omega arith
+
+pub cast-result : need.cast-result
+cast-result g c =
+    let r = g .G·ParityGame .ranged (c .args .game .now) in
+    let h = r .degrees (c .args .position) (omega arith) in
+    omega arith
