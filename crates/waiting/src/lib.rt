@@ -1,0 +1,4 @@
+pub mod limits;
+pub mod names;
+pub mod numbers;
+pub mod positions;
