@@ -7,11 +7,11 @@ ghost use Rattle.chart.specs.Names.{Naming};
 ghost use Rattle.std.specs.declared.option.Option.{Option};
 ghost use Rattle.std.specs.Options.{mapped};
 pub use parts::Move;
-pub use parts::MoveDebug;
-pub use parts::MovePartialEq;
 pub use parts::Player;
-pub use parts::PlayerDebug;
 pub use parts::PlayerPartialEq;
+pub use parts::PlayerDebug;
+pub use parts::MovePartialEq;
+pub use parts::MoveDebug;
 
 pub mod dead_end;
 pub mod parts;

@@ -25,7 +25,7 @@ use lib.ListN.{length}
 pub cost-within : (a : Arena) (v m : ℕ) → m < degree-of a v → cost-of a v m ≤ greatest-cost a
 cost-within a v m h =
     le-trans (greatest-over (λ n. true) (cost-of a v) (degree-of a v) m h refl)
-    (greatest-over (λ n. true) (λ x. greatest-of (λ n. true) (cost-of a x) (degree-of a x)) (size a) v (moves-there a v m h) refl)
+      (greatest-over (λ n. true) (λ x. greatest-of (λ n. true) (cost-of a x) (degree-of a x)) (size a) v (moves-there a v m h) refl)
 
 under-cond : (b : Bool) (x y z : ℕ) → y ≤ z → x + cond b 0 y ≤ x + cond b 0 z
 under-cond true x y z h = omega arith
@@ -62,7 +62,7 @@ module _ (a : Arena) (s : ℕ → ℕ) (q : ℕ) where
   longest-over zero v (m ∷ ms) h f = absurd (omega arith)
   longest-over (suc k) v (m ∷ ms) h f =
       le-trans (under-cond (answers a q (target-of a v m)) (cost-of a v m) _ _ (longest-over k (target-of a v m) ms (omega arith) (f .2)))
-      (greatest-over (allowed a s v) (on k v) (degree-of a v) m (f .0) (may v m (f .1)))
+        (greatest-over (allowed a s v) (on k v) (degree-of a v) m (f .0) (may v m (f .1)))
 
   pub record Attained (k v : ℕ) : Type 0 where
     pub moves : List ℕ
@@ -76,11 +76,8 @@ module _ (a : Arena) (s : ℕ → ℕ) (q : ℕ) where
     | inr t ↦
         let m : ℕ = t .0 in
         let r = longest-met k (target-of a v m) in
-        record {
-          moves = m ∷ r .moves;
-          sails = (t .1, may-back v m (t .2), r .sails);
-          waits = ap (λ w. cost-of a v m + cond (answers a q (target-of a v m)) 0 w) (r .waits) ∙ sym (t .3);
-        }
+        record { moves = m ∷ r .moves; sails = (t .1, may-back v m (t .2), r .sails)
+               ; waits = ap (λ w. cost-of a v m + cond (answers a q (target-of a v m)) 0 w) (r .waits) ∙ sym (t .3) }
   ]
 
 -- where v makes a request and where it does not

@@ -28,12 +28,9 @@ module _ (a : Arena) (r : Ranged a) (ok : may-be-laid a ≡ true) (i : ℕ) (σ 
   pub step-arrives : (x y l : ℕ) → l ≤ a .height / 2 → (e : StepAt l x y) →
       Step (game-of (waiting a)) i σ (place a x l 0) (place a y (land l y) (toll (cost-of a x (e .0))))
   step-arrives x y l low e =
-      let hx : x < size a = moves-there a x (e .0) (e .1) in (
-        e .0,
-        rw (degree-at-vertex a ok x l hx low) (e .1),
-        (λ o. e .2 (sym (owner-at a ok x l hx low 0 (omega arith)) ∙ o)),
-        target-at-vertex a ok x l hx low (e .0) (e .1) ∙ ap (λ z. place a z (land l z) (toll (cost-of a x (e .0)))) (e .3),
-      )
+      let hx : x < size a = moves-there a x (e .0) (e .1) in
+      (e .0, rw (degree-at-vertex a ok x l hx low) (e .1), (λ o. e .2 (sym (owner-at a ok x l hx low 0 (omega arith)) ∙ o)),
+       target-at-vertex a ok x l hx low (e .0) (e .1) ∙ ap (λ z. place a z (land l z) (toll (cost-of a x (e .0)))) (e .3))
 
   pub toll-arrives : (v l : ℕ) → v < size a → l ≤ a .height / 2 → W (place a v l 1) → Step (game-of (waiting a)) i σ (place a v l 1) (place a v l 0)
   toll-arrives v l hv low w =

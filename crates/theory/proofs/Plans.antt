@@ -180,9 +180,9 @@ module _ (a : Arena) (r : Ranged a) (ok : may-be-laid a ≡ true) (σ : ℕ → 
       let out : Above q bound (place a y L 1) (place a y L 0) = step-out q L bound h (omega arith) y (my .0) (f .3) w in
       let into : Walk (Above q bound) (place a x L 0) (place a y L 1) = last (step-in q L bound h (omega arith) x y f e) in
       let rest : Walk (Above q bound) (place a y L 0) (place a y L 1) = elim (d .back) [
-        | inl s ↦ subst (λ v. Walk (Above q bound) (place a v L 0) (place a y L 1)) (sym s) into
-        | inr v ↦ walk-join (lift-any q L bound h (omega arith) (walk-flat q (WaitingStep a plan q) (λ x y e. e) L h v (my .0) (omega arith) (omega arith))) into
-      ] in
+            | inl s ↦ subst (λ v. Walk (Above q bound) (place a v L 0) (place a y L 1)) (sym s) into
+            | inr v ↦ walk-join (lift-any q L bound h (omega arith) (walk-flat q (WaitingStep a plan q) (λ x y e. e) L h v (my .0) (omega arith) (omega arith))) into
+          ] in
       let even = r .even in
       k .sound (place a y L 1) w (λ s. absurd (omega arith)) (step out rest)
 
@@ -206,9 +206,9 @@ module _ (a : Arena) (r : Ranged a) (ok : may-be-laid a ≡ true) (σ : ℕ → 
     ]
     free-or-costly (step {p} {q = t} e w) = elim (toll-cases (cost-of a p (sub p t e .0 .0))) [
       | inl z ↦ elim (free-or-costly w) [
-        | inl v ↦ inl (step (e, z .1) v)
-        | inr d ↦ inr (record { from = d .from; to = d .to; met = inr (reach-after (sub p t e) (d .met)); move = d .move; costs = d .costs; back = d .back })
-      ]
+          | inl v ↦ inl (step (e, z .1) v)
+          | inr d ↦ inr (record { from = d .from; to = d .to; met = inr (reach-after (sub p t e) (d .met)); move = d .move; costs = d .costs; back = d .back })
+        ]
       | inr z ↦ inr (record { from = p; to = t; met = inl refl; move = sub p t e; costs = z .0; back = inr (walk-map sub w) })
     ]
 
@@ -223,9 +223,9 @@ module _ (a : Arena) (r : Ranged a) (ok : may-be-laid a ≡ true) (σ : ℕ → 
         | inl v ↦
             let s : colour-of (waiting a) (place a u L 0) ≡ colour-of a u = vertex-colour q u L m (omega arith) refl in
             k .sound (place a u L 0) (b .won u m) (λ z. absurd (let y = ap (λ n. n % 2) s in omega arith))
-            (walk-lift (λ x. place a x L 0)
-            (λ x y f. step-free q x y L (colour-of (waiting a) (place a u L 0)) h (rw s (f .4 .0 .0)) (rw s (f .4 .0 .1)) (f .0, f .1, f .2, f .3, sub x y (f .4 .0)) (f .4 .1))
-            (walk-flat q (Free q E sub) (λ x y e. sub x y (e .0)) L h v m (omega arith) (omega arith)))
+              (walk-lift (λ x. place a x L 0)
+                (λ x y f. step-free q x y L (colour-of (waiting a) (place a u L 0)) h (rw s (f .4 .0 .0)) (rw s (f .4 .0 .1)) (f .0, f .1, f .2, f .3, sub x y (f .4 .0)) (f .4 .1))
+                (walk-flat q (Free q E sub) (λ x y e. sub x y (e .0)) L h v m (omega arith) (omega arith)))
         | inr d ↦ plan-cheap u m o (record { from = d .from; to = d .to; met = d .met; move = d .move; costs = d .costs; back = reach-join (d .back) (d .met) })
       ]
 

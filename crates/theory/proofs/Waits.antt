@@ -51,9 +51,9 @@ module _ (a : Arena) (s : ℕ → ℕ) (q : ℕ) where
       elim (ℕ-discrete (cost-of a v m) 0) [
         | no d ↦ inr (record { from = v; to = y; met = inl refl; move = here; costs = omega arith; back = reaches y xs (f .2) (n .1) })
         | yes z ↦ elim (costly y xs (f .2) (n .1)) [
-          | inl w ↦ inl (rw (z, n .0, w) (omega arith))
-          | inr c ↦ inr (record { from = c .from; to = c .to; met = inr (reach-after here (c .met)); move = c .move; costs = c .costs; back = c .back })
-        ]
+            | inl w ↦ inl (rw (z, n .0, w) (omega arith))
+            | inr c ↦ inr (record { from = c .from; to = c .to; met = inr (reach-after here (c .met)); move = c .move; costs = c .costs; back = c .back })
+          ]
       ]
 
   -- what is answered before its end waits as long on fewer moves
@@ -66,12 +66,8 @@ module _ (a : Arena) (s : ℕ → ℕ) (q : ℕ) where
   fewer-on : (v m : ℕ) (xs : List ℕ) → m < degree-of a v → (owner-of a v ≡ 0 → m ≡ s v) → Fewer (target-of a v m) xs → Fewer v (m ∷ xs)
   fewer-on v m xs h o r =
       let y : ℕ = target-of a v m in
-      record {
-        moves = m ∷ r .moves;
-        sails = (h, o, r .sails);
-        short = (let k = r .short in omega arith);
-        waits = ap (λ w. cost-of a v m + cond (answers a q y) 0 w) (r .waits);
-      }
+      record { moves = m ∷ r .moves; sails = (h, o, r .sails); short = (let k = r .short in omega arith)
+             ; waits = ap (λ w. cost-of a v m + cond (answers a q y) 0 w) (r .waits) }
 
   fewer : (v : ℕ) (xs : List ℕ) → Sails a s v xs → unanswered a q v xs ≡ false → answers a q (reached a v xs) ≡ false → Fewer v xs
   fewer v [] f e n = absurd (let z : _≡_ {A = ℕ} 0 1 = cc in omega arith)
@@ -97,16 +93,9 @@ around : (a : Arena) (v : ℕ) (ms : List ℕ) (p : ℕ) → Twice (passed a v m
 around a v ms p t =
     let one : Stop a v ms p (t .before) (t .between ++ (p ∷ t .after)) = stop a v ms p (t .before) (t .between ++ (p ∷ t .after)) (t .is) in
     let two : Stop a p (one .back) p (p ∷ t .between) (t .after) = stop a p (one .back) p (p ∷ t .between) (t .after) (one .on) in
-    record {
-      at = p;
-      front = one .front;
-      loop = two .front;
-      rest = two .back;
-      is = one .is ∙ ap (λ z. one .front ++ z) (two .is);
-      some = (let k = two .long in omega arith);
-      met = one .there;
-      back = two .there;
-    }
+    record
+      { at = p; front = one .front; loop = two .front; rest = two .back
+      ; is = one .is ∙ ap (λ z. one .front ++ z) (two .is); some = (let k = two .long in omega arith); met = one .there; back = two .there }
 
 module _ (a : Arena) (r : Ranged a) (Marked : ℕ → Type 0) (s : ℕ → ℕ) (safe : SafePlan a Marked s) where
   pub sails-marked : (v : ℕ) (ms : List ℕ) → Marked v → Sails a s v ms → Marked (reached a v ms)
@@ -142,7 +131,7 @@ module _ (a : Arena) (r : Ranged a) (Marked : ℕ → Type 0) (s : ℕ → ℕ) 
       let ch : Chain E (w .part) = chain-front E (w .part) (w .after) (chain-back E (w .before) ys (subst (Chain E) (w .is) (passed-chain v ms mk f))) in
       let lo : All (λ x. x < size a) (w .part) = all-front _ (w .part) (w .after) (all-back _ (w .before) ys (subst (All (λ x. x < size a)) (w .is) (passed-low v ms mk f))) in
       let h = few-shown E (colour-of a) (size a) (w .shown) (w .part)
-      (λ p e loop. safe .no-odd-loop p (walk-first loop .1 .2 .0) (ap (λ n. n % 2) e ∙ w .odd) loop) ch lo (w .under) in
+            (λ p e loop. safe .no-odd-loop p (walk-first loop .1 .2 .0) (ap (λ n. n % 2) e ∙ w .odd) loop) ch lo (w .under) in
       let k = w .often in
       omega arith
 
@@ -184,46 +173,35 @@ module _ (a : Arena) (r : Ranged a) (Marked : ℕ → Type 0) (s : ℕ → ℕ) 
         shut : answers a q (reached a (t .at) (t .loop)) ≡ false → unanswered a q u (t .front) ≡ true → unanswered a q (t .at) (t .loop) ≡ false → Fewer a s q u ms
         shut n e d =
             let x = fewer a s q (t .at) (t .loop) (tails .0) d n in
-            record {
-              moves = t .front ++ x .moves;
-              sails = onward (x .moves) (x .sails);
-              short = (let k = x .short in let j = length-append (t .front) (x .moves) in let l = long in omega arith);
-              waits = later e (x .moves) ∙ (ap (λ w. wait a q u (t .front) + w) (x .waits ∙ sym (wait-join a q (t .at) (t .loop) (t .rest) ∙ rw d (omega arith))) ∙ sym (ap (wait a q u) (t .is) ∙ later e (t .loop ++ t .rest)));
-            }
+            record
+              { moves = t .front ++ x .moves; sails = onward (x .moves) (x .sails)
+              ; short = (let k = x .short in let j = length-append (t .front) (x .moves) in let l = long in omega arith)
+              ; waits = later e (x .moves) ∙ (ap (λ w. wait a q u (t .front) + w) (x .waits ∙ sym (wait-join a q (t .at) (t .loop) (t .rest) ∙ rw d (omega arith))) ∙ sym (ap (wait a q u) (t .is) ∙ later e (t .loop ++ t .rest))) }
 
         free : wait a q (t .at) (t .loop) ≡ 0 → unanswered a q u (t .front) ≡ true → unanswered a q (t .at) (t .loop) ≡ true → Fewer a s q u ms
         free z e d =
-            record {
-              moves = t .front ++ t .rest;
-              sails = onward (t .rest) (subst (λ x. Sails a s x (t .rest)) (t .back) (tails .1));
-              short = (let k = t .some in let j = length-append (t .front) (t .rest) in let l = long in omega arith);
-              waits = later e (t .rest) ∙ (ap (λ w. wait a q u (t .front) + w) (sym (wait-join a q (t .at) (t .loop) (t .rest) ∙ rw (z, d, t .back) (omega arith))) ∙ sym (ap (wait a q u) (t .is) ∙ later e (t .loop ++ t .rest)));
-            }
+            record
+              { moves = t .front ++ t .rest; sails = onward (t .rest) (subst (λ x. Sails a s x (t .rest)) (t .back) (tails .1))
+              ; short = (let k = t .some in let j = length-append (t .front) (t .rest) in let l = long in omega arith)
+              ; waits = later e (t .rest) ∙ (ap (λ w. wait a q u (t .front) + w) (sym (wait-join a q (t .at) (t .loop) (t .rest) ∙ rw (z, d, t .back) (omega arith))) ∙ sym (ap (wait a q u) (t .is) ∙ later e (t .loop ++ t .rest))) }
 
         loops : unanswered a q u (t .front) ≡ true → Costly a s q (t .at) (reached a (t .at) (t .loop)) → CostlyLoop a s u
-        loops e c = record {
-          from = c .from;
-          to = c .to;
-          move = c .move;
-          costs = c .costs;
-          met = reach-join (subst (Reaches (WaitingStep a s q) u) (t .met) (reaches a s q u (t .front) (parts .0) e)) (c .met);
-          back = reach-join (subst (Reaches (WaitingStep a s q) (c .to)) (t .back) (c .back)) (c .met);
-        }
+        loops e c = record
+          { from = c .from; to = c .to; move = c .move; costs = c .costs
+          ; met = reach-join (subst (Reaches (WaitingStep a s q) u) (t .met) (reaches a s q u (t .front) (parts .0) e)) (c .met)
+          ; back = reach-join (subst (Reaches (WaitingStep a s q) (c .to)) (t .back) (c .back)) (c .met) }
 
         go : (b : Bool) → unanswered a q u (t .front) ≡ b → (c : Bool) → unanswered a q (t .at) (t .loop) ≡ c → Fewer a s q u ms
-        go false e c d = record {
-          moves = t .front;
-          sails = parts .0;
-          short = (let k = t .some in let l = long in omega arith);
-          waits = sym (ap (wait a q u) (t .is) ∙ (wait-join a q u (t .front) (t .loop ++ t .rest) ∙ rw e (omega arith)));
-        }
+        go false e c d = record
+          { moves = t .front; sails = parts .0; short = (let k = t .some in let l = long in omega arith)
+          ; waits = sym (ap (wait a q u) (t .is) ∙ (wait-join a q u (t .front) (t .loop ++ t .rest) ∙ rw e (omega arith))) }
         go true e true d = elim (costly a s q (t .at) (t .loop) (tails .0) d) [ inl z ↦ free z e d | inr c ↦ absurd (safe .no-costly-loop u mk odd (loops e c)) ]
         go true e false d = shut (ap (answers a q) (t .back ∙ sym (t .met)) ∙ open-end a q u (t .front) unasked e) e d
 
     comes-back : (ms : List ℕ) → Sails a s u ms → size a ≤ length ms → Around a u ms
     comes-back ms f h =
         elim (pigeons (size a) (λ x. 1) (passed a u ms) (λ x. omega arith)
-        (all-weaker _ (λ x. size a ≤ x → 1 ≡ 0) (λ x (l : x < size a) g. absurd (omega arith)) (passed a u ms) (passed-low u ms mk f))) [
+          (all-weaker _ (λ x. size a ≤ x → 1 ≡ 0) (λ x (l : x < size a) g. absurd (omega arith)) (passed a u ms) (passed-low u ms mk f))) [
           | inl t ↦ around a u ms (t .0) (t .2)
           | inr t ↦ absurd (let n = tally-all (passed a u ms) in let l = passed-long a u ms in omega arith)
         ]

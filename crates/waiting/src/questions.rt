@@ -4,7 +4,7 @@ ghost use Rattle.std.specs.Options.{mapped};
 ghost use Rattle.chart.specs.Arena.{size, vertex-at, move-at};
 ghost use Rattle.chart.specs.Players.{numbered};
 ghost use Rattle.game.specs.Waiting.{levels, positions, may-be-laid, waiting, lifted};
-ghost use Rattle.waiting.specs.Positions.{located, number-of, first-of};
+ghost use Rattle.waiting.specs.Positions.{located, number-of, first-of, naming-over, finding-over};
 use super::limits::HIGHEST_BELOW;
 use super::limits::MOST_POSITIONS;
 use super::names::Position;
@@ -174,4 +174,38 @@ pub fn position_move<C: Chart>(chart: &C, number: usize, index: usize) -> Option
     } else {
         None
     }
+}
+
+/// The name of a position: the name of its vertex with its level and its stage.
+pub fn position_name<C: Chart>(chart: &C, number: usize) -> Option<Position<C::Name>>
+    ensures { λ r. ⌜ r ≡ naming-over (C·Chart .meaning (now (chart .entry))) (C·Chart .naming (now (chart .entry))) number ⌝ }
+{
+    let Some(position) = locate(chart, number) else {
+        return None;
+    };
+    let Some(below) = chart.name(position.below) else {
+        return None;
+    };
+    Some(Position {
+        below,
+        level: position.level,
+        stage: position.stage,
+    })
+}
+
+/// The number of the position of a name.
+pub fn find_position<C: Chart>(chart: &C, name: Position<C::Name>) -> Option<usize>
+    ensures { λ r. ⌜ r ≡ finding-over (C·Chart .meaning (now (chart .entry))) (C·Chart .finding (now (chart .entry))) name ⌝ }
+{
+    let Some(vertex) = chart.find(name.below) else {
+        return None;
+    };
+    position_number(
+        chart,
+        Position {
+            below: vertex,
+            level: name.level,
+            stage: name.stage,
+        },
+    )
 }

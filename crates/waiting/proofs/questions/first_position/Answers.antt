@@ -3,7 +3,7 @@ use Prim.Native.Nat.{ℕ, _+_, _*_, _≤_, _<_}
 use native.Mathlib.Omega.{arith}
 use Rattle.game.specs.Waiting.{place, arrive}
 use Rattle.waiting.proofs.Answered.{colour-known, first-there, first-absent}
-use Rattle.waiting.proofs.positions.first_position.Needs as need
+use Rattle.waiting.proofs.questions.first_position.Needs as need
 
 pub returns-in-rest : need.returns-in-rest
 returns-in-rest g c = first-absent (g .C·Chart .meaning (c .args .chart .now)) (c .args .vertex) (c .in-rest .ensures tt)

@@ -5,7 +5,7 @@ use Rattle.std.specs.shelf.Maps.{nth}
 use Rattle.chart.specs.Arena.{and-then, move-at}
 use Rattle.game.specs.Waiting.{waiting}
 use Rattle.waiting.proofs.Answered.{past, move-on, move-beyond, paying-there}
-use Rattle.waiting.proofs.positions.position_move.Needs as need
+use Rattle.waiting.proofs.questions.position_move.Needs as need
 
 pub returns-in-rest : need.returns-in-rest
 returns-in-rest g c =

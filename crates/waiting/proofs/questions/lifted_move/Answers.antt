@@ -3,7 +3,7 @@ use Prim.Native.Nat.{ℕ, _+_, _*_, _≤_, _<_}
 use native.Mathlib.Omega.{arith}
 use Rattle.game.specs.Waiting.{place, arrive, toll}
 use Rattle.waiting.proofs.Answered.{colour-known, colour-absent, target-known, lifted-is}
-use Rattle.waiting.proofs.positions.lifted_move.Needs as need
+use Rattle.waiting.proofs.questions.lifted_move.Needs as need
 
 pub returns-in-rest-colour : need.returns-in-rest-colour
 returns-in-rest-colour g c =

@@ -5,7 +5,7 @@ use Rattle.std.specs.declared.option.Option.the-variants.{Some}
 use Rattle.chart.specs.Arena.{size}
 use Rattle.game.specs.Waiting.{waiting}
 use Rattle.waiting.proofs.Answered.{located-there, located-past}
-use Rattle.waiting.proofs.positions.locate.Needs as need
+use Rattle.waiting.proofs.questions.locate.Needs as need
 
 pub returns-then-number-waiting-size : need.returns-then-number-waiting-size
 returns-then-number-waiting-size g c =

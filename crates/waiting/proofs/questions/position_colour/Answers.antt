@@ -5,7 +5,7 @@ use Rattle.std.specs.declared.option.Option.the-variants.{Some}
 use Rattle.std.specs.Options.{mapped}
 use Rattle.game.specs.Waiting.{tint}
 use Rattle.waiting.proofs.Answered.{past, colour-there, colour-known, colour-absent, vertex-there-low}
-use Rattle.waiting.proofs.positions.position_colour.Needs as need
+use Rattle.waiting.proofs.questions.position_colour.Needs as need
 
 pub returns-in-rest : need.returns-in-rest
 returns-in-rest g c =

@@ -2,7 +2,7 @@ use mathlib.Core.Path.{sym, ap, _∙_}
 use lib.ListN.{length}
 use Rattle.std.specs.Options.{mapped}
 use Rattle.waiting.proofs.Answered.{past, degree-on, degree-off}
-use Rattle.waiting.proofs.positions.position_degree.Needs as need
+use Rattle.waiting.proofs.questions.position_degree.Needs as need
 
 pub returns-in-rest : need.returns-in-rest
 returns-in-rest g c =

@@ -1,7 +1,7 @@
 use mathlib.Core.Path.{sym, ap, _∙_}
 use Rattle.std.specs.Options.{mapped}
 use Rattle.waiting.proofs.Answered.{past, owner-there}
-use Rattle.waiting.proofs.positions.position_owner.Needs as need
+use Rattle.waiting.proofs.questions.position_owner.Needs as need
 
 pub returns-in-rest : need.returns-in-rest
 returns-in-rest g c =
