@@ -8,12 +8,12 @@ pub fn arrive(level: u8, colour: u8) -> u8
     ensures { λ r. ⌜ r ≡ arrive level colour ⌝ }
 {
     let half = colour / 2;
-    if colour % 2 == 1 {
-        if level <= half { half + 1 } else { level }
-    } else if level <= half {
-        0
-    } else {
+    if level > half {
         level
+    } else if colour % 2 == 1 {
+        half + 1
+    } else {
+        0
     }
 }
 
