@@ -23,6 +23,12 @@ use Rattle.game.proofs.Positions.{unlaid, waiting-size, waiting-at, waiting-pas
 use Rattle.waiting.specs.declared.names.Position.{Position}
 use Rattle.waiting.specs.Positions.{located, first-of}
 
+tint-shown : (h k l t : ℕ) → t ≡ 0 → 0 < l → k ≡ tint h k l t
+tint-shown h k l t on up = grind arith
+
+tint-given : (h k l t : ℕ) → (t ≡ 0 → l ≡ 0) → tint h 0 l t ≡ tint h k l t
+tint-given h k l t low = grind arith
+
 module _ (a : Arena) where
   -- the position of a number p that is there
   abbrev pub spot : ℕ → Position ℕ
@@ -85,10 +91,23 @@ module _ (a : Arena) where
         ∙ (ap Some (sym (owner-is a (x .below) _ at-vertex) ∙ ap (λ y. owner-of a (y .below)) (sym is-spot))
         ∙ sym (ap (mapped (λ v. v .owner)) at-position))
 
-    pub colour-there : (k : ℕ) → colour-of a (x .below) ≡ k → Some (tint (a .height) k (x .level) (x .stage)) ≡ mapped (λ v. v .colour) (vertex-at (waiting a) p)
-    colour-there k same =
-        ap Some (ap (λ j. tint (a .height) j (x .level) (x .stage)) (sym same) ∙ ap (λ y. tint (a .height) (colour-of a (y .below)) (y .level) (y .stage)) (sym is-spot))
+    colour-there : Some (tint (a .height) (colour-of a (x .below)) (x .level) (x .stage)) ≡ mapped (λ v. v .colour) (vertex-at (waiting a) p)
+    colour-there =
+        ap (λ y. Some (tint (a .height) (colour-of a (y .below)) (y .level) (y .stage))) (sym is-spot)
         ∙ sym (ap (mapped (λ v. v .colour)) at-position)
+
+    -- the vertex's colour where something waits, and else one that the height gives
+    pub colour-shown : x .stage ≡ 0 → 0 < x .level → mapped (λ v. v .colour) (vertex-at a (x .below)) ≡ mapped (λ v. v .colour) (vertex-at (waiting a) p)
+    colour-shown on up =
+        ap (mapped (λ v. v .colour)) at-vertex
+        ∙ (ap Some (sym (colour-is a (x .below) _ at-vertex) ∙ tint-shown (a .height) (colour-of a (x .below)) (x .level) (x .stage) on up)
+        ∙ colour-there)
+
+    pub colour-given : (h : ℕ) → h ≡ a .height → (x .stage ≡ 0 → x .level ≡ 0) → Some (tint h 0 (x .level) (x .stage)) ≡ mapped (λ v. v .colour) (vertex-at (waiting a) p)
+    colour-given h same low =
+        ap (λ j. Some (tint j 0 (x .level) (x .stage))) same
+        ∙ (ap Some (tint-given (a .height) (colour-of a (x .below)) (x .level) (x .stage) low)
+        ∙ colour-there)
 
     -- at a vertex
     module _ (on : x .stage ≡ 0) where

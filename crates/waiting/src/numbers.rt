@@ -24,13 +24,13 @@ pub fn toll(cost: u32) -> u8
     if cost == 0 { 0 } else { 1 }
 }
 
-/// The colour of a position over a vertex of that colour.
-pub(crate) fn tint(height: u8, colour: u8, level: u8, stage: u8) -> u8
-    requires { ⌜ height ≤ 28 ⌝ }
-    ensures { λ r. ⌜ r ≡ tint height colour level stage ⌝ }
+/// The colour of a position that does not show its vertex's colour: a toll, or a level at which nothing waits.
+pub(crate) fn signal(height: u8, level: u8, stage: u8) -> u8
+    requires { ⌜ height ≤ 28 ⌝ ∗ ⌜ (stage ≡ 0 → level ≡ 0) ⌝ }
+    ensures { λ r. ⌜ r ≡ tint height 0 level stage ⌝ }
 {
     if stage == 0 {
-        if level == 0 { height + 2 } else { colour }
+        height + 2
     } else if level == 0 {
         0
     } else {

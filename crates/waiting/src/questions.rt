@@ -10,7 +10,7 @@ use super::limits::MOST_POSITIONS;
 use super::names::Position;
 use super::numbers::arrive;
 use super::numbers::place;
-use super::numbers::tint;
+use super::numbers::signal;
 use super::numbers::toll;
 use chart::Chart;
 use chart::Move;
@@ -120,10 +120,11 @@ pub fn position_colour<C: Chart>(chart: &C, number: usize) -> Option<u8>
     let Some(position) = locate(chart, number) else {
         return None;
     };
-    let Some(colour) = chart.colour(position.below) else {
-        return None;
-    };
-    Some(tint(chart.height(), colour, position.level, position.stage))
+    if position.stage == 0 && position.level > 0 {
+        chart.colour(position.below)
+    } else {
+        Some(signal(chart.height(), position.level, position.stage))
+    }
 }
 
 /// The number of moves that leave the position: those of its vertex, or the one of a toll.
