@@ -7,7 +7,7 @@ pub fn in_order<Q: Question, C: Chart>(chart: &C, rounds: u32) -> Tally {
     let mut tally = Tally::new();
     for _ in 0..rounds {
         for vertex in 0..chart.size() {
-            for number in 0..Q::number_at(chart, vertex) {
+            for number in 0..Q::times_at(chart, vertex) {
                 if let Some(said) = Q::ask(chart, vertex, number) {
                     tally.add(said);
                 }
@@ -22,17 +22,19 @@ pub fn in_turn<Q: Question, C: Chart>(chart: &C, times: u32) -> Tally {
     let mut tally = Tally::new();
     let size = chart.size();
     let mut vertex = 0;
-    for _ in 0..times {
-        if let Some(said) = Q::ask(chart, vertex, 0) {
+    for turn in 0..times {
+        if let Some(said) = first_or::<Q, C>(chart, vertex, turn as usize % 8) {
             tally.add(said);
-            vertex = later(size, vertex, 1 + said % 2);
+            vertex = Q::next(size, vertex, said);
         }
     }
     tally
 }
 
-/// So many vertices further on, or the first.
-fn later(size: usize, vertex: usize, by: usize) -> usize {
-    let next = vertex.wrapping_add(by);
-    if next < size { next } else { 0 }
+/// Asks about the number, or about 0 where there is nothing of that number, as at a toll.
+fn first_or<Q: Question, C: Chart>(chart: &C, vertex: usize, number: usize) -> Option<usize> {
+    match Q::ask(chart, vertex, number) {
+        Some(said) => Some(said),
+        None => Q::ask(chart, vertex, 0),
+    }
 }

@@ -7,8 +7,6 @@ use question::Colour;
 use question::ColourQuestion;
 use question::Degree;
 use question::DegreeQuestion;
-use question::Height;
-use question::HeightQuestion;
 use question::Name;
 use question::NameQuestion;
 use question::Owner;
@@ -37,7 +35,6 @@ mod times;
 fn main(rt: LibcRuntime) -> io::Result<()> {
     let timing = timing(&rt)?;
     put::<Size>(&rt, timing)?;
-    put::<Height>(&rt, timing)?;
     put::<Owner>(&rt, timing)?;
     put::<Colour>(&rt, timing)?;
     put::<Degree>(&rt, timing)?;

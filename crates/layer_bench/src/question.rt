@@ -7,13 +7,25 @@ pub trait Question {
 
     fn ask<C: Chart>(chart: &C, vertex: usize, number: usize) -> Option<usize>;
 
-    /// How many such questions there are about the vertex.
-    fn number_at<C: Chart>(chart: &C, vertex: usize) -> usize;
+    /// How many times it is asked about a vertex.
+    fn times_at<C: Chart>(_chart: &C, _vertex: usize) -> usize {
+        1
+    }
+
+    /// Of which vertex it is asked next, after what was said.
+    fn next(size: usize, vertex: usize, said: usize) -> usize {
+        let next = vertex.wrapping_add(1 + said % 2);
+        if next < size { next } else { 0 }
+    }
+
+    /// How many questions of a chart it consists of.
+    fn parts() -> u128 {
+        1
+    }
 }
 
+/// Asks for the size and for the height.
 pub struct Size;
-
-pub struct Height;
 
 pub struct Owner;
 
@@ -28,29 +40,15 @@ pub struct Name;
 
 pub impl Question for Size as SizeQuestion {
     fn word() -> &'static str {
-        "size"
+        "size, height"
     }
 
     fn ask<C: Chart>(chart: &C, _vertex: usize, _number: usize) -> Option<usize> {
-        Some(chart.size())
+        Some(chart.size() ^ chart.height() as usize)
     }
 
-    fn number_at<C: Chart>(_chart: &C, _vertex: usize) -> usize {
-        1
-    }
-}
-
-pub impl Question for Height as HeightQuestion {
-    fn word() -> &'static str {
-        "height"
-    }
-
-    fn ask<C: Chart>(chart: &C, _vertex: usize, _number: usize) -> Option<usize> {
-        Some(chart.height() as usize)
-    }
-
-    fn number_at<C: Chart>(_chart: &C, _vertex: usize) -> usize {
-        1
+    fn parts() -> u128 {
+        2
     }
 }
 
@@ -66,10 +64,6 @@ pub impl Question for Owner as OwnerQuestion {
             None => None,
         }
     }
-
-    fn number_at<C: Chart>(_chart: &C, _vertex: usize) -> usize {
-        1
-    }
 }
 
 pub impl Question for Colour as ColourQuestion {
@@ -83,10 +77,6 @@ pub impl Question for Colour as ColourQuestion {
             None => None,
         }
     }
-
-    fn number_at<C: Chart>(_chart: &C, _vertex: usize) -> usize {
-        1
-    }
 }
 
 pub impl Question for Degree as DegreeQuestion {
@@ -96,10 +86,6 @@ pub impl Question for Degree as DegreeQuestion {
 
     fn ask<C: Chart>(chart: &C, vertex: usize, _number: usize) -> Option<usize> {
         chart.degree(vertex)
-    }
-
-    fn number_at<C: Chart>(_chart: &C, _vertex: usize) -> usize {
-        1
     }
 }
 
@@ -115,8 +101,12 @@ pub impl Question for Step as StepQuestion {
         }
     }
 
-    fn number_at<C: Chart>(chart: &C, vertex: usize) -> usize {
+    fn times_at<C: Chart>(chart: &C, vertex: usize) -> usize {
         chart.degree(vertex).unwrap_or(0)
+    }
+
+    fn next(_size: usize, _vertex: usize, said: usize) -> usize {
+        said
     }
 }
 
@@ -132,7 +122,7 @@ pub impl Question for Name as NameQuestion {
         }
     }
 
-    fn number_at<C: Chart>(_chart: &C, _vertex: usize) -> usize {
-        1
+    fn parts() -> u128 {
+        2
     }
 }

@@ -15,7 +15,7 @@ pub fn time_in_order<Q: Question, C: Chart>(rt: &impl Clock, chart: &C) -> io::R
         let start = Instant::now(rt)?;
         let tally = in_order::<Q, C>(chart, rounds);
         let taken = start.elapsed(rt)?;
-        best = best.min(shared_out(taken.as_nanos(), tally));
+        best = best.min(shared_out::<Q>(taken.as_nanos(), tally));
     }
     Ok(best)
 }
@@ -27,17 +27,17 @@ pub fn time_in_turn<Q: Question, C: Chart>(rt: &impl Clock, chart: &C) -> io::Re
         let start = Instant::now(rt)?;
         let tally = in_turn::<Q, C>(chart, 1_000_000);
         let taken = start.elapsed(rt)?;
-        best = best.min(shared_out(taken.as_nanos(), tally));
+        best = best.min(shared_out::<Q>(taken.as_nanos(), tally));
     }
     Ok(best)
 }
 
 /// A time for each answer. The sum has a part in it, so that every answer is worked out.
-fn shared_out(nanos: u128, tally: Tally) -> u128 {
+fn shared_out<Q: Question>(nanos: u128, tally: Tally) -> u128 {
     let odd = (tally.sum % 2) as u128;
     nanos
         .saturating_add(odd)
         .saturating_mul(1000)
-        .checked_div(tally.asked as u128)
+        .checked_div((tally.asked as u128).saturating_mul(Q::parts()))
         .unwrap_or(0)
 }
