@@ -23,11 +23,11 @@ module _ (a : Arena) where
   passed-long v (m ∷ ms) = ap suc (passed-long (target-of a v m) ms)
 
   -- a voyage that is followed by one more move
-  voyage-push : (v : ℕ) (ms : List ℕ) (m : ℕ) → Voyage a v ms → m < degree-of a (reached a v ms) → Voyage a v (ms ++ (m ∷ []))
+  pub voyage-push : (v : ℕ) (ms : List ℕ) (m : ℕ) → Voyage a v ms → m < degree-of a (reached a v ms) → Voyage a v (ms ++ (m ∷ []))
   voyage-push v [] m f h = (h, tt)
   voyage-push v (n ∷ ms) m f h = (f .0, voyage-push (target-of a v n) ms m (f .1) h)
 
-  follows-push : (plan : Plan) (v : ℕ) (ms : List ℕ) (m : ℕ) → Follows a plan v ms →
+  pub follows-push : (plan : Plan) (v : ℕ) (ms : List ℕ) (m : ℕ) → Follows a plan v ms →
       (owner-of a (reached a v ms) ≡ 0 → m ≡ plan ms) → Follows a plan v (ms ++ (m ∷ []))
   follows-push plan v [] m f e = (e, tt)
   follows-push plan v (n ∷ ms) m f e = (f .0, follows-push (λ past. plan (n ∷ past)) (target-of a v n) ms m (f .1) e)
