@@ -5,4 +5,3 @@ pub mod Waiting
 pub mod Claims
 pub mod Bounds
 pub mod Worked
-pub mod Tallies

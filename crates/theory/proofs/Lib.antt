@@ -12,4 +12,3 @@ pub mod Plain
 pub mod Firsts
 pub mod Meanings
 pub mod WorkedCharts
-pub mod Tally
