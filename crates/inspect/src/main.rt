@@ -1,95 +1,53 @@
 use chart::Chart;
-use chart::Player;
-use chart::RefusalDisplay;
+
 use chart::lowest_dead_end;
 use drawn::Drawn;
 use drawn::DrawnChart;
+use intake::fill;
 use std::io;
+use text::MisreadDisplay;
+use text::read;
+use waiting::Waiting;
+use waiting::WaitingChart;
+use waiting::may_be_laid;
+use waiting::positions;
 
-/// Draws a small basin by place, join and strike, refused calls included,
-/// prints each answer, and then the rows of the finished chart.
+mod survey;
+
+/// No chart text is longer than 20,888 bytes; a longer input shows its first fault within this many.
+const MOST_BYTES: usize = 32768;
+
+/// Reads a chart text from standard input and tells what the chart has.
 fn main(rt: LibcRuntime) -> io::Result<()> {
-    let mut basin = Drawn::new();
-    draw_vertices(&rt, &mut basin)?;
-    draw_moves(&rt, &mut basin)?;
-    strike_moves(&rt, &mut basin)?;
-    print_rows(&rt, &basin)
-}
-
-fn draw_vertices(rt: &impl Print, basin: &mut Drawn) -> io::Result<()> {
-    place(rt, basin, 1, 0)?;
-    place(rt, basin, 0, 1)?;
-    place(rt, basin, 0, 2)?;
-    place(rt, basin, 2, 0)?;
-    place(rt, basin, 0, 9)?;
-    place(rt, basin, 70_000, 9)?;
-    place(rt, basin, 0, 0)
-}
-
-fn draw_moves(rt: &impl Print, basin: &mut Drawn) -> io::Result<()> {
-    join(rt, basin, 1, 2, 7)?;
-    join(rt, basin, 0, 0, 5)?;
-    join(rt, basin, 1, 0, 5)?;
-    join(rt, basin, 0, 1, 0)?;
-    join(rt, basin, 2, 0, 10_000)?;
-    join(rt, basin, 2, 0, 10_001)?;
-    join(rt, basin, 4, 0, 1)?;
-    join(rt, basin, 0, 4, 10_001)?;
-    join(rt, basin, 0, 1, 0)
-}
-
-fn strike_moves(rt: &impl Print, basin: &mut Drawn) -> io::Result<()> {
-    strike(rt, basin, 0, 0)?;
-    strike(rt, basin, 0, 2)?;
-    strike(rt, basin, 4, 0)?;
-    join(rt, basin, 0, 0, 5)
-}
-
-fn place(rt: &impl Print, basin: &mut Drawn, owner: u32, colour: u32) -> io::Result<()> {
-    match basin.place(owner, colour) {
-        Ok(vertex) => println!(rt, "place {owner},{colour}: vertex {vertex}"),
-        Err(refusal) => println!(rt, "place {owner},{colour}: {refusal}"),
+    let mut buffer = [0u8; MOST_BYTES];
+    let filled = fill(&rt, &mut buffer)?;
+    let mut chart = Drawn::new();
+    match read(&mut chart, &buffer[0..filled]) {
+        Ok(()) => tell(&rt, chart),
+        Err(misread) => println!(rt, "{misread}"),
     }
 }
 
-fn join(rt: &impl Print, basin: &mut Drawn, from: usize, to: usize, cost: u32) -> io::Result<()> {
-    match basin.join(from, to, cost) {
-        Ok(number) => println!(rt, "join {from},{to},{cost}: move {number} of {from}"),
-        Err(refusal) => println!(rt, "join {from},{to},{cost}: {refusal}"),
+fn tell(rt: &impl Print, chart: Drawn) -> io::Result<()> {
+    survey::tell_vertices(rt, &chart)?;
+    survey::tell_moves(rt, &chart)?;
+    match lowest_dead_end(&chart) {
+        Some(vertex) => println!(rt, "lowest vertex without a move: {vertex}")?,
+        None => println!(rt, "every vertex has a move")?,
     }
+    tell_layers(rt, chart)
 }
 
-fn strike(rt: &impl Print, basin: &mut Drawn, vertex: usize, number: usize) -> io::Result<()> {
-    match basin.strike(vertex, number) {
-        Ok(()) => println!(rt, "strike {vertex},{number}: struck"),
-        Err(refusal) => println!(rt, "strike {vertex},{number}: {refusal}"),
-    }
+fn tell_layers(rt: &impl Print, chart: Drawn) -> io::Result<()> {
+    let count = positions(&chart);
+    let one = may_be_laid(&chart);
+    let layer = Waiting { below: chart };
+    let two = one && may_be_laid(&layer);
+    println!(rt, "positions: {count}")?;
+    println!(rt, "one waiting chart may be laid: {}", word(one))?;
+    println!(rt, "two waiting charts may be laid: {}", word(two))
 }
 
-fn print_rows<C: Chart>(rt: &impl Print, chart: &C) -> io::Result<()> {
-    let size = chart.size();
-    let height = chart.height();
-    println!(rt, "vertices {size}, height {height}")?;
-    for vertex in 0..size {
-        print_row(rt, chart, vertex)?;
-    }
-    match lowest_dead_end(chart) {
-        Some(vertex) => println!(rt, "lowest vertex without a move: {vertex}"),
-        None => println!(rt, "every vertex has a move"),
-    }
-}
-
-fn print_row<C: Chart>(rt: &impl Print, chart: &C, vertex: usize) -> io::Result<()> {
-    let owner = match chart.owner(vertex) {
-        Some(Player::Harbour) => "harbour",
-        _ => "controller",
-    };
-    let colour = chart.colour(vertex).unwrap_or(0);
-    print!(rt, "{vertex}: {owner}, colour {colour}, moves")?;
-    for number in 0..chart.degree(vertex).unwrap_or(0) {
-        if let Some(step) = chart.move_at(vertex, number) {
-            print!(rt, " {}/{}", step.target, step.cost)?;
-        }
-    }
-    println!(rt, "")
+fn word(yes: bool) -> &'static str {
+    if yes { "yes" } else { "no" }
 }
