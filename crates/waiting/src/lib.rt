@@ -9,6 +9,8 @@ pub use layer::WaitingChart;
 pub use names::Position;
 pub use names::PositionDebug;
 pub use names::PositionPartialEq;
+pub use numbers::arrive;
+pub use numbers::toll;
 pub use questions::find_position;
 pub use questions::first_position;
 pub use questions::levels;

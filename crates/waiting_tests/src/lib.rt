@@ -1,1 +1,8 @@
-mod blank;
+#[cfg(test)]
+mod absent;
+#[cfg(test)]
+mod layers;
+#[cfg(test)]
+mod limits;
+#[cfg(test)]
+mod lone;
