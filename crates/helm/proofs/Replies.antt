@@ -1,6 +1,6 @@
 -- The ways through steer and hear.
 use mathlib.Core.Path.{_≡_, refl, sym, ap, _∙_}
-use mathlib.Core.Bool.{true, false, cond, _||_}
+use mathlib.Core.Bool.{Bool, true, false, cond, _||_}
 use mathlib.Core.List.{List}
 use Prim.Native.Nat.{ℕ, _≤_, _<_}
 use native.Mathlib.Omega.{arith}
@@ -23,11 +23,11 @@ module _ (a : Arena) (s : State) (m : ℕ) (ts : List ℕ) where
     there : moving a s m ts n ≡ cond (leb 1000000 (s .moves)) (stayed 22 0 s) (went (state-moved a s m ts))
     there = cond-false (leb (degree-of a (s .vertex)) m) _ _ (lt-leb (degree-of a (s .vertex)) m h)
 
-    pub moving-over : 1000000 ≤ s .moves → moving a s m ts n ≡ stayed 22 0 s
-    moving-over k = there ∙ cond-true (leb 1000000 (s .moves)) _ _ (le-leb 1000000 (s .moves) k)
+    pub moving-over : leb 1000000 (s .moves) ≡ true → moving a s m ts n ≡ stayed 22 0 s
+    moving-over k = there ∙ cond-true (leb 1000000 (s .moves)) _ _ k
 
-    pub moving-on : s .moves < 1000000 → moving a s m ts n ≡ went (state-moved a s m ts)
-    moving-on k = there ∙ cond-false (leb 1000000 (s .moves)) _ _ (lt-leb 1000000 (s .moves) k)
+    pub moving-on : leb 1000000 (s .moves) ≡ false → moving a s m ts n ≡ went (state-moved a s m ts)
+    moving-on k = there ∙ cond-false (leb 1000000 (s .moves)) _ _ k
 
   -- the move as the chart answers it
   module _ (y : Move) (is : Moves a (s .vertex) m y) where
@@ -49,6 +49,10 @@ module _ (a : Arena) (s : State) (ts : List ℕ) (v : s .vertex < size a) (l : h
   hear-through m =
       cond-false (leb (size a) (s .vertex)) _ _ (lt-leb (size a) (s .vertex) v)
       ∙ cond-false (ltb (length ts) (half a)) _ _ (le-ltb (length ts) (half a) l)
+
+-- the test of the limit, as a call answers it
+pub spent-is : (s : State) (b c : Bool) → b ≡ leb 1000000 (s .moves) → b ≡ c → leb 1000000 (s .moves) ≡ c
+spent-is s b c e f = sym e ∙ f
 
 -- what a reply settles: the answer and the tally
 pub record Settled (reply told : Reply) (new old ts : List ℕ) : Type 0 where

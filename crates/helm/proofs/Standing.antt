@@ -8,7 +8,7 @@ use native.Mathlib.Omega.{arith}
 use lib.Dec.{leb, ltb, eqb}
 use lib.ListN.{length, getD, take, drop}
 use Rattle.std.proofs.shelf.Lists.{append-nil, append-assoc, length-append, length-take-le, length-push, take-at}
-use Rattle.std.proofs.shelf.Tests.{cases-bool, cases-lt, cond-true, cond-false, or-parts, ltb-false}
+use Rattle.std.proofs.shelf.Tests.{cases-bool, cases-lt, cond-true, cond-false, or-parts, ltb-false, leb-false}
 use Rattle.chart.specs.Arena.{Arena, Ranged, size}
 use Rattle.chart.specs.Refusals.{Outcome, done, refused}
 use Rattle.game.specs.Reading.{owner-of, colour-of, degree-of, target-of, cost-of}
@@ -115,13 +115,15 @@ module _ (a : Arena) (ran : Ranged a) (plan : List ℕ) (start : ℕ) where
 
   -- the last two questions of a call
   moving-cases : (r : Run) (c : Call) (n : ℕ) → reply a plan r c ≡ moving a (r .state) (asked plan r c) (r .tally) n → Stays r c ⊎ Goes r c
-  moving-cases r c n e = elim (cases-lt (asked plan r c) (degree-of a (r .state .vertex))) [
-    | inr l ↦ inl (stays r c n 0 (e ∙ moving-absent a (r .state) (asked plan r c) (r .tally) n l))
-    | inl h ↦ elim (cases-lt (r .state .moves) 1000000) [
-      | inr l ↦ inl (stays r c 22 0 (e ∙ moving-over a (r .state) (asked plan r c) (r .tally) n h l))
-      | inl k ↦ inr (goes r c h k (e ∙ moving-on a (r .state) (asked plan r c) (r .tally) n h k))
-    ]
-  ]
+  moving-cases r c n e =
+      elim (cases-lt (asked plan r c) (degree-of a (r .state .vertex))) [
+        | inr l ↦ inl (stays r c n 0 (e ∙ moving-absent a (r .state) (asked plan r c) (r .tally) n l))
+        | inl h ↦
+            elim (cases-bool (leb 1000000 (r .state .moves))) [
+              | inl l ↦ inl (stays r c 22 0 (e ∙ moving-over a (r .state) (asked plan r c) (r .tally) n h l))
+              | inr k ↦ inr (goes r c h (leb-false 1000000 (r .state .moves) k) (e ∙ moving-on a (r .state) (asked plan r c) (r .tally) n h k))
+            ]
+      ]
 
   call-cases : (r : Run) (c : Call) → Stays r c ⊎ Goes r c
   call-cases r steer = elim (cases-bool (leb (size a) (r .state .vertex))) [

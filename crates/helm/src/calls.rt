@@ -1,10 +1,10 @@
-ghost use Prim.Native.Nat.{_+_, _/_, _≤_, _<_, max};
-ghost use mathlib.Core.List.{map};
+ghost use Prim.Native.Nat.{_≤_, _<_};
 ghost use mathlib.Core.Path.{_≡_};
-ghost use lib.ListN.{length, take};
+ghost use lib.Dec.{leb};
+ghost use lib.ListN.{length};
 ghost use Rattle.game.specs.Reading.{owner-of, colour-of};
 ghost use Rattle.chart.specs.Players.{numbered};
-ghost use Rattle.helm.specs.Tally.{grown, arrived, longest as longestOf, highest-open, on-first};
+ghost use Rattle.helm.specs.Tally.{on-first};
 ghost use Rattle.helm.specs.States.{ours, harbours, state-of, finished, begun, steered, heard};
 ghost use Rattle.helm.specs.Calls.{half as halfOf, waits-passed, sailed, begin-outcome, begin-tally, steer-reply, steer-tally, hear-reply, hear-tally};
 use super::tally::greater;
@@ -74,6 +74,13 @@ fn turn_of(player: Player, vertex: usize, moves: u32, worst: u64, waiting: u8) -
     }
 }
 
+/// Whether a voyage of so many moves may make no other.
+fn is_spent(moves: u32) -> bool
+    ensures { λ r. ⌜ r ≡ leb 1000000 moves ⌝ }
+{
+    moves >= MOST_MOVES
+}
+
 /// Makes a move: the tally's used entries wait through it and arrive, and the
 /// turn is the owner's of the vertex arrived at.
 fn sail<C: Chart>(chart: &C, tally: &mut [u64], step: Move, moves: u32, worst: u64) -> Turn
@@ -81,11 +88,12 @@ fn sail<C: Chart>(chart: &C, tally: &mut [u64], step: Move, moves: u32, worst: u
     ensures answer { λ r. ⌜ state-of r ≡ sailed (C·Chart .meaning (now (chart .entry))) (step .target) (step .cost) moves worst (now (tally .entry)) ⌝ }
     ensures after { λ _. ⌜ now (tally .exit) ≡ on-first (halfOf (C·Chart .meaning (now (chart .entry)))) (waits-passed (step .cost) (colour-of (C·Chart .meaning (now (chart .entry))) (step .target))) (now (tally .entry)) ⌝ }
 {
+    let Move { target, cost } = step;
     let used = half(chart);
-    let passage = pass(&mut tally[..used], step.cost, colour_at(chart, step.target));
+    let passage = pass(&mut tally[..used], cost, colour_at(chart, target));
     turn_of(
-        owner_at(chart, step.target),
-        step.target,
+        owner_at(chart, target),
+        target,
         moves + 1,
         greater(worst, passage.longest),
         passage.highest,
@@ -131,13 +139,13 @@ pub fn steer<C: Chart>(
     if plan.len() < chart.size() || tally.len() < half(chart) {
         return Err((turn, Refusal::ShortTable));
     }
-    let Some(step) = chart.move_at(turn.vertex, plan[turn.vertex] as usize) else {
+    let Some(planned) = chart.move_at(turn.vertex, plan[turn.vertex] as usize) else {
         return Err((turn, Refusal::WrongPlanEntry(0)));
     };
-    if turn.moves >= MOST_MOVES {
+    if is_spent(turn.moves) {
         return Err((turn, Refusal::TooManySteps));
     }
-    Ok(sail(chart, tally, step, turn.moves, turn.worst))
+    Ok(sail(chart, tally, planned, turn.moves, turn.worst))
 }
 
 /// Makes the harbour's move and gives the next turn. A refusal gives the turn back.
@@ -159,7 +167,7 @@ pub fn hear<C: Chart>(
     let Some(step) = chart.move_at(turn.vertex, number) else {
         return Err((turn, Refusal::AbsentMove));
     };
-    if turn.moves >= MOST_MOVES {
+    if is_spent(turn.moves) {
         return Err((turn, Refusal::TooManySteps));
     }
     Ok(sail(chart, tally, step, turn.moves, turn.worst))
@@ -171,29 +179,15 @@ pub fn finish(turn: Turn, slip: Slip) -> Record
 {
     let Slip { seal: _ } = slip;
     match turn {
-        Turn::Ours(
-            OurTurn {
-                vertex: _,
-                moves,
-                worst,
-                waiting,
-            },
-        ) => Record {
-            moves,
-            worst,
-            waiting,
+        Turn::Ours(ours) => Record {
+            moves: ours.moves,
+            worst: ours.worst,
+            waiting: ours.waiting,
         },
-        Turn::Harbours(
-            HarbourTurn {
-                vertex: _,
-                moves,
-                worst,
-                waiting,
-            },
-        ) => Record {
-            moves,
-            worst,
-            waiting,
+        Turn::Harbours(theirs) => Record {
+            moves: theirs.moves,
+            worst: theirs.worst,
+            waiting: theirs.waiting,
         },
     }
 }

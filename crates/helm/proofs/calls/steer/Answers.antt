@@ -1,4 +1,4 @@
-use mathlib.Core.Path.{_≡_, _∙_}
+use mathlib.Core.Path.{_∙_}
 use native.Mathlib.Omega.{arith}
 use Prim.Native.Nat.{_≤_, _<_}
 use lib.ListN.{length}
@@ -6,7 +6,7 @@ use Rattle.chart.specs.Arena.{size}
 use Rattle.helm.specs.States.{ours}
 use Rattle.helm.specs.Calls.{half, planned, tally-moved}
 use Rattle.helm.proofs.Looks.{move-none, move-some}
-use Rattle.helm.proofs.Replies.{moving-absent, moving-over, moving-on, steer-through, refuses, goes}
+use Rattle.helm.proofs.Replies.{moving-absent, moving-over, moving-on, steer-through, spent-is, refuses, goes}
 use Rattle.helm.proofs.calls.steer.Needs as need
 
 pub returns-in-rest : need.returns-in-rest
@@ -23,8 +23,8 @@ returns-in-rest g c =
     let z = refuses _ 13 0 s (tally-moved a s m ts) ts (through ∙ moving-absent a s m ts 13 (move-none a (s .vertex) m (c .in-rest .ensures tt))) in
     record { answer = z .answer; after = z .after }
 
-pub returns-then-turn-ge-MOST-MOVES : need.returns-then-turn-ge-MOST-MOVES
-returns-then-turn-ge-MOST-MOVES g c =
+pub returns-then-is-spent : need.returns-then-is-spent
+returns-then-is-spent g c =
     let a = g .C·Chart .meaning (c .args .chart .now) in
     let ts = c .args .tally .now in
     let s = ours (c .args .turn) in
@@ -34,8 +34,8 @@ returns-then-turn-ge-MOST-MOVES g c =
     let l : half a ≤ length ts = omega arith in
     let long : size a ≤ length plan = omega arith in
     let through = steer-through a s ts v l plan long in
-    let is = move-some a (s .vertex) m (c .in-Some .step) (c .in-Some .ensures tt) in
-    let z = refuses _ 22 0 s (tally-moved a s m ts) ts (through ∙ moving-over a s m ts 13 (is .there) (c .if-turn-ge-MOST-MOVES .taken)) in
+    let is = move-some a (s .vertex) m (c .in-Some .planned) (c .in-Some .ensures tt) in
+    let z = refuses _ 22 0 s (tally-moved a s m ts) ts (through ∙ moving-over a s m ts 13 (is .there) (spent-is s _ _ (c .is-spent .ensures) (c .if-is-spent .taken))) in
     record { answer = z .answer; after = z .after }
 
 pub returns : need.returns
@@ -49,8 +49,8 @@ returns g c =
     let l : half a ≤ length ts = omega arith in
     let long : size a ≤ length plan = omega arith in
     let through = steer-through a s ts v l plan long in
-    let y = c .in-Some .step in
+    let y = c .in-Some .planned in
     let is = move-some a (s .vertex) m y (c .in-Some .ensures tt) in
-    let on = through ∙ moving-on a s m ts 13 (is .there) (c .if-turn-ge-MOST-MOVES .left) in
+    let on = through ∙ moving-on a s m ts 13 (is .there) (spent-is s _ _ (c .is-spent .ensures) (c .if-is-spent .left)) in
     let z = goes a s m ts y is _ on _ (c .sail .ensures .answer) _ (c .sail .ensures .after) in
     record { answer = z .answer; after = z .after }
