@@ -114,6 +114,8 @@ pub fn position_owner<C: Chart>(chart: &C, number: usize) -> Option<Player>
     chart.owner(position.below)
 }
 
+/// The colour of the position: its vertex's where something waits and nothing is paid, else one
+/// that the height gives.
 pub fn position_colour<C: Chart>(chart: &C, number: usize) -> Option<u8>
     ensures { λ r. ⌜ r ≡ mapped (λ v. v .colour) (vertex-at (waiting (C·Chart .meaning (now (chart .entry)))) number) ⌝ }
 {
