@@ -26,7 +26,13 @@ pub fn after_hear(answer: Result<Turn, (HarbourTurn, Refusal)>) -> Turn {
 }
 
 /// One call: the plan's move at our turn, the number given at the harbour's.
-pub fn call<C: Chart>(turn: Turn, chart: &C, plan: &[u16], tally: &mut [u64], number: usize) -> Turn {
+pub fn call<C: Chart>(
+    turn: Turn,
+    chart: &C,
+    plan: &[u16],
+    tally: &mut [u64],
+    number: usize,
+) -> Turn {
     match turn {
         Turn::Ours(ours) => after_steer(steer(ours, chart, plan, tally)),
         Turn::Harbours(theirs) => after_hear(hear(theirs, chart, number, tally)),
@@ -34,12 +40,26 @@ pub fn call<C: Chart>(turn: Turn, chart: &C, plan: &[u16], tally: &mut [u64], nu
 }
 
 /// A voyage of one call for each number; a number says the harbour's move, if it is its turn.
-pub fn voyage<C: Chart>(chart: &C, plan: &[u16], start: usize, numbers: &[usize]) -> Result<Record, Refusal> {
-    let marks = [1; 8];
+pub fn voyage<C: Chart>(
+    chart: &C,
+    plan: &[u16],
+    start: usize,
+    numbers: &[usize],
+) -> Result<Record, Refusal> {
     let mut tally = [77; 4];
-    let (mut turn, slip) = begin(chart, &marks, &mut tally, start)?;
+    voyage_with(chart, plan, &mut tally, start, numbers)
+}
+
+fn voyage_with<C: Chart>(
+    chart: &C,
+    plan: &[u16],
+    tally: &mut [u64],
+    start: usize,
+    numbers: &[usize],
+) -> Result<Record, Refusal> {
+    let (mut turn, slip) = begin(chart, &[1; 8], tally, start)?;
     for number in numbers {
-        turn = call(turn, chart, plan, &mut tally, *number);
+        turn = call(turn, chart, plan, tally, *number);
     }
     Ok(finish(turn, slip))
 }

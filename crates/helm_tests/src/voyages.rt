@@ -1,15 +1,15 @@
 // Voyages on small charts, with their records computed by hand.
+use super::charts::answered_at_once;
+use super::charts::answered_or_put_off;
+use super::charts::harbour_lingers_free;
+use super::charts::lower_request_waits_longer;
+use super::crew::voyage;
 use chart::RefusalDebug;
 use drawn::DrawnChart;
 use helm::Record;
 use helm::RecordDebug;
 use helm::RecordPartialEq;
 use std::test::*;
-use super::charts::answered_at_once;
-use super::charts::answered_or_put_off;
-use super::charts::harbour_lingers_free;
-use super::charts::lower_request_waits_longer;
-use super::crew::voyage;
 
 fn told(moves: u32, worst: u64, waiting: u8) -> Record {
     Record {
@@ -59,7 +59,10 @@ fn a_plan_answers_or_puts_off() -> Result<(), Fail> {
     let puts_off = [65535, 1, 0];
     check_eq(voyage(&chart, &puts_off, 0, &[1, 0])?, told(2, 5, 1))?;
     check_eq(voyage(&chart, &puts_off, 0, &[1, 0, 0])?, told(3, 10, 1))?;
-    check_eq(voyage(&chart, &puts_off, 0, &[1, 0, 1, 0, 1])?, told(5, 10, 1))
+    check_eq(
+        voyage(&chart, &puts_off, 0, &[1, 0, 1, 0, 1])?,
+        told(5, 10, 1),
+    )
 }
 
 #[test]
