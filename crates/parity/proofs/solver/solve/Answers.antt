@@ -11,7 +11,7 @@ use Rattle.parity.proofs.solver.solve.Needs as need
 pub settle-requires : need.settle-requires
 settle-requires g c κs =
     let b = g .G·ParityGame .board (c .args .game .now) in
-    (record { tags = simp length-take (omega arith); winners = simp length-take (omega arith); moves = simp length-take (omega arith) }, has-move b (c .in-rest .ensures tt))
+    (record { tags = simp length-take (omega arith); winners = simp length-take (omega arith); moves = simp length-take (omega arith) }, omega arith, has-move b (c .in-rest .ensures tt))
 
 pub returns : need.returns
 returns g c =
