@@ -1,2 +1,3 @@
-pub mod Walks
+pub mod Apart
 pub mod Keeping
+pub mod Walks
