@@ -6,12 +6,22 @@ ghost use Rattle.chart.specs.Players.{numbered};
 ghost use Rattle.chart.specs.Names.{Naming};
 ghost use Rattle.std.specs.declared.option.Option.{Option};
 ghost use Rattle.std.specs.Options.{mapped};
-use parts::Move;
-use parts::Player;
+pub use parts::Move;
+pub use parts::MoveDebug;
+pub use parts::MovePartialEq;
+pub use parts::Player;
+pub use parts::PlayerDebug;
+pub use parts::PlayerPartialEq;
 
 pub mod dead_end;
 pub mod parts;
 pub mod refusal;
+
+pub use dead_end::lowest_dead_end;
+pub use refusal::Refusal;
+pub use refusal::RefusalDebug;
+pub use refusal::RefusalDisplay;
+pub use refusal::RefusalPartialEq;
 
 /// A chart of any kind. Its whole meaning is a finite arena; each answer is
 /// an equation with it, and no question changes the chart.

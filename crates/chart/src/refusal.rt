@@ -2,7 +2,8 @@ ghost use mathlib.Core.Path.{_≡_};
 ghost use Rattle.chart.specs.Refusals.{number-of, place-of};
 use std::fmt;
 
-/// Why a call refuses. A variant is named for its cause; docs/REFUSALS.md has each number and place.
+/// Why a call refuses. A variant is named for its cause and carries its
+/// place, if the rule names one; docs/REFUSALS.md has each number and place.
 #[derive(Clone, Copy, PartialEq, Eq, Debug)]
 pub enum Refusal {
     UnknownOwner,
@@ -12,9 +13,17 @@ pub enum Refusal {
     CostTooHigh,
     TooManyMoves,
     AbsentMove,
+    /// The lowest vertex without a move.
     DeadEnd(usize),
     ShortTable,
     ShortMemory,
+    /// The vertex; 0 at the helm, which names no place.
+    WrongPlanEntry(usize),
+    UnmarkedStart,
+    TooManySteps,
+    /// The line, counted from 1.
+    WrongLine(usize),
+    ShortBuffer,
 }
 
 impl Refusal {
@@ -33,6 +42,11 @@ impl Refusal {
             Refusal::DeadEnd(_) => 8,
             Refusal::ShortTable => 10,
             Refusal::ShortMemory => 11,
+            Refusal::WrongPlanEntry(_) => 13,
+            Refusal::UnmarkedStart => 21,
+            Refusal::TooManySteps => 22,
+            Refusal::WrongLine(_) => 23,
+            Refusal::ShortBuffer => 24,
         }
     }
 
@@ -48,9 +62,14 @@ impl Refusal {
             Refusal::CostTooHigh => 0,
             Refusal::TooManyMoves => 0,
             Refusal::AbsentMove => 0,
-            Refusal::DeadEnd(place) => place,
+            Refusal::DeadEnd(vertex) => vertex,
             Refusal::ShortTable => 0,
             Refusal::ShortMemory => 0,
+            Refusal::WrongPlanEntry(vertex) => vertex,
+            Refusal::UnmarkedStart => 0,
+            Refusal::TooManySteps => 0,
+            Refusal::WrongLine(line) => line,
+            Refusal::ShortBuffer => 0,
         }
     }
 }

@@ -1,12 +1,14 @@
-use Rattle.walks.specs.Games.{Game, Step, Walk, Inside, Loop, Keeps, Descends, AtTop, Trap, Split}
+-- What a player keeps, put together from parts: attractors, traps, and regions solved one after
+-- another.
+use Rattle.walks.specs.Games.{Game, Step, Inside, Keeps, Descends, AtTop, Trap, Split}
 use Rattle.walks.proofs.Walks.{walk-map, walk-falls, loop-sorts, walk-first}
-use mathlib.Core.Path.{_≡_, refl, sym, subst, ap, _∙_}
+use mathlib.Core.Path.{_≡_, sym, subst, ap, _∙_}
 use native.Mathlib.Decide.{ℕ-discrete}
 use mathlib.Core.Logic.{_⊎_, inl, inr}
-use Prim.Native.Nat.{ℕ, _+_, _%_, _≤_, _<_}
+use Prim.Native.Nat.{ℕ, _%_, _≤_, _<_}
 use native.Mathlib.Omega.{arith}
 
--- T2. What is drawn into W is kept with W
+-- what is drawn into W is kept with W: outside W ranks fall, so a loop lies in W
 module _ (g : Game) (i : ℕ) (R : ℕ → Type 0) (s : ℕ → ℕ) (W : ℕ → Type 0) (k : Keeps g i R s W) where
   pub attractor-kept : (r : ℕ → ℕ) (B : ℕ → Type 0) → ((p : ℕ) → W p → B p) → ((p : ℕ) → B p → R p) →
       ((p : ℕ) → B p → W p ⊎ Descends g i R s r B p) → Keeps g i R s B
@@ -23,7 +25,8 @@ module _ (g : Game) (i : ℕ) (R : ℕ → Type 0) (s : ℕ → ℕ) (W : ℕ �
             ];
       }
 
--- T3. The player of the highest colour d keeps all of R, where it keeps C and all else falls to colour d
+-- the player of the highest colour d keeps all of R, where it keeps C and all else is drawn to
+-- colour d: a loop outside C meets d, which is good for it
 module _ (g : Game) (i d : ℕ) (R : ℕ → Type 0) (s : ℕ → ℕ) (top : (p : ℕ) → R p → g .colour p ≤ d) (ours : d % 2 ≡ i) where
   pub whole-kept : (C A : ℕ → Type 0) (r : ℕ → ℕ) → Keeps g i C s C → ((p : ℕ) → C p → R p) → ((p : ℕ) → R p → A p ⊎ C p) →
       ((p : ℕ) → A p → AtTop g i d R s p ⊎ Descends g i R s r A p) → Keeps g i R s R
@@ -45,7 +48,7 @@ module _ (g : Game) (i d : ℕ) (R : ℕ → Type 0) (s : ℕ → ℕ) (top : (p
             ];
       }
 
--- T4. C is a trap in R for the others of i: they cannot leave it
+-- what i keeps in C it keeps in R, where C is a trap in R for its opponents
 module _ (g : Game) (i : ℕ) (R C : ℕ → Type 0) (low : (p : ℕ) → C p → R p) (trap : Trap g i R C) where
   pub trap-kept : (s : ℕ → ℕ) (W : ℕ → Type 0) → Keeps g i C s W → Keeps g i R s W
   trap-kept s W k =
@@ -77,7 +80,8 @@ module _ (g : Game) (i : ℕ) (R B D : ℕ → Type 0) (s : ℕ → ℕ) (sort :
             ];
       }
 
--- the other case: j keeps W in C; B is drawn into W; D, the rest of R, falls into X and Y
+-- j keeps W in the trap C; B is drawn into W; the rest D of R splits into X and Y: then R splits
+-- into X, and B with Y
 pub other-split : (g : Game) (i j : ℕ) (R C D W B X Y : ℕ → Type 0) (s r : ℕ → ℕ) →
     ((p : ℕ) → C p → R p) → Trap g j R C → Keeps g j C s W →
     ((p : ℕ) → W p → B p) → ((p : ℕ) → B p → R p) → ((p : ℕ) → B p → W p ⊎ Descends g j R s r B p) →
@@ -90,7 +94,7 @@ other-split g i j R C D W B X Y s r c-low c-trap kw wide b-low draw sort d-low d
       all = λ p rp. elim (sort p rp) [ inl b ↦ inr (inl b) | inr d ↦ elim (h .all p d) [ inl x ↦ inl x | inr y ↦ inr (inr y) ] ];
     }
 
--- only what s picks on U counts
+-- only what the strategy picks on U counts
 pub same-kept : (g : Game) (i : ℕ) (R U : ℕ → Type 0) (s t : ℕ → ℕ) → ((p : ℕ) → U p → s p ≡ t p) → Keeps g i R s U → Keeps g i R t U
 same-kept g i R U s t eq k =
     record {

@@ -1,4 +1,6 @@
-use Rattle.walks.specs.Games.{Walk, last, step, Inside}
+-- Walks: mapped, joined, and sorted by the sets that they stay in.
+use Rattle.walks.specs.Games.{Walk, last, step, Reaches, Inside}
+use mathlib.Core.Path.{sym, subst}
 use mathlib.Core.Logic.{_⊎_, inl, inr}
 use Prim.Native.Nat.{ℕ, _<_}
 use native.Mathlib.Omega.{arith}
@@ -7,7 +9,7 @@ pub walk-map : {E F : ℕ → ℕ → Type 0} → ((p q : ℕ) → E p q → F p
 walk-map f (last e) = last (f _ _ e)
 walk-map f (step e w) = step (f _ _ e) (walk-map f w)
 
--- a rank that falls at each step falls along a way
+-- a rank that falls at each step falls along a walk
 pub walk-falls : {E : ℕ → ℕ → Type 0} (r : ℕ → ℕ) → ((p q : ℕ) → E p q → r q < r p) → {p q : ℕ} → Walk E p q → r q < r p
 walk-falls r f (last e) = f _ _ e
 walk-falls r f (step e w) = let a = f _ _ e in let b = walk-falls r f w in omega arith
@@ -45,3 +47,13 @@ walk-join (step e w) v = step e (walk-join w v)
 pub walk-lift : {E F : ℕ → ℕ → Type 0} (φ : ℕ → ℕ) → ((p q : ℕ) → E p q → F (φ p) (φ q)) → {p q : ℕ} → Walk E p q → Walk F (φ p) (φ q)
 walk-lift φ f (last e) = last (f _ _ e)
 walk-lift φ f (step e w) = step (f _ _ e) (walk-lift φ f w)
+
+-- walks of no step or more, put together
+pub reach-after : {E : ℕ → ℕ → Type 0} {p q r : ℕ} → E p q → Reaches E q r → Walk E p r
+reach-after {E} {p} e (inl s) = subst (Walk E p) s (last e)
+reach-after e (inr w) = step e w
+
+pub reach-join : {E : ℕ → ℕ → Type 0} {p q r : ℕ} → Reaches E p q → Reaches E q r → Reaches E p r
+reach-join {E} {r = r} (inl s) v = subst (λ x. Reaches E x r) (sym s) v
+reach-join {E} {p} (inr w) (inl s) = inr (subst (Walk E p) s w)
+reach-join (inr w) (inr v) = inr (walk-join w v)

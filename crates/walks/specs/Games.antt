@@ -22,6 +22,10 @@ pub data Walk (E : ℕ → ℕ → Type 0) : ℕ → ℕ → Type 0 where
   last : {p q : ℕ} → E p q → Walk E p q
   step : {p q r : ℕ} → E p q → Walk E q r → Walk E p r
 
+-- A walk of no step or more.
+abbrev pub Reaches : (ℕ → ℕ → Type 0) → ℕ → ℕ → Type 0
+Reaches E p q = (p ≡ q) ⊎ Walk E p q
+
 -- A step of E that begins and ends in U.
 abbrev pub Inside : (ℕ → Type 0) → (ℕ → ℕ → Type 0) → ℕ → ℕ → Type 0
 Inside U E p q = U p × U q × E p q

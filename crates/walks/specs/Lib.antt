@@ -1,1 +1,3 @@
 pub mod Games
+pub mod Showings
+pub mod Tables

@@ -1,0 +1,4 @@
+pub mod Tally
+pub mod States
+pub mod Calls
+pub mod Runs

@@ -1,0 +1,5 @@
+pub mod Lines
+pub mod Tokens
+pub mod Reading
+pub mod Writing
+pub mod Laws

@@ -1,0 +1,14 @@
+pub mod Lifting
+pub mod Plans
+pub mod Sailing
+pub mod Waits
+pub mod Greatest
+pub mod Bounds
+pub mod Laying
+pub mod Counterplay
+pub mod Deciding
+pub mod Best
+pub mod Plain
+pub mod Firsts
+pub mod Meanings
+pub mod WorkedCharts

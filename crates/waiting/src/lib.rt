@@ -1,0 +1,27 @@
+pub mod layer;
+pub mod limits;
+pub mod names;
+pub mod numbers;
+pub mod questions;
+
+pub use layer::Waiting;
+pub use layer::WaitingChart;
+pub use names::Position;
+pub use names::PositionDebug;
+pub use names::PositionPartialEq;
+pub use numbers::arrive;
+pub use numbers::toll;
+pub use questions::find_position;
+pub use questions::first_position;
+pub use questions::levels;
+pub use questions::locate;
+pub use questions::may_be_laid;
+pub use questions::position_colour;
+pub use questions::position_degree;
+pub use questions::position_move;
+pub use questions::position_name;
+pub use questions::position_number;
+pub use questions::position_owner;
+pub use questions::positions;
+pub use questions::waiting_height;
+pub use questions::waiting_size;
