@@ -1,20 +1,23 @@
 -- From the region of all positions to the whole game.
 use mathlib.Core.Path.{_≡_, refl, sym, subst, ap, _∙_}
 use mathlib.Core.List.{List}
+use mathlib.Core.Logic.{_⊎_, inl, inr}
 use Prim.Native.Nat.{ℕ, _+_, _*_, _≤_, _<_}
 use native.Mathlib.Omega.{arith}
+use native.Mathlib.Decide.{ℕ-discrete}
 use lib.Dec.{eqb, ltb}
 use lib.ListN.{length, getD, take}
 use Rattle.std.specs.declared.option.Option.the-variants.{Some, None}
 use Rattle.std.proofs.shelf.Tests.{eqb-false, le-ltb, cond-false}
 use Rattle.chart.specs.Refusals.{Outcome, done, refused}
 use Rattle.walks.specs.Games.{Keeps}
+use Rattle.walks.proofs.Apart.{not-both}
 use Rattle.walks.proofs.Keeping.{same-sets, same-kept}
 use Rattle.parity.specs.Boards.{Board, Ranged}
 use Rattle.parity.specs.Sheets.{Sheet, sheet, Under}
 use Rattle.parity.specs.Rounds.{Highest}
 use Rattle.parity.specs.Solving.{Region, Won, Solved}
-use Rattle.parity.specs.Promise.{dead-end, fitting, judged, verdict, Settled}
+use Rattle.parity.specs.Promise.{dead-end, fitting, judged, verdict, Settled, Sole}
 use Rattle.parity.proofs.Lowest.{lowest-none}
 
 module _ (b : Board) (c : ℕ) (a : Sheet) (zero : (p : ℕ) → a .tag p ≡ 0) (h : Highest (b .game) 1 (b .size) (a .tag) c) where
@@ -64,3 +67,19 @@ pub has-move : (b : Board) → None ≡ dead-end b → (p : ℕ) → p < b .size
 has-move b none p lt =
     let n = eqb-false (b .game .degree p) 0 (lowest-none (λ q. eqb (b .game .degree q) 0) (b .size) p (sym none) lt) in
     omega arith
+
+-- who wins in one table and who in another is the same player
+pub sole-winners : (b : Board) → Ranged b → (w s : List ℕ) → Settled b w s → Sole b w
+sole-winners b r w s k v t l p lt = elim (ℕ-discrete (getD w p 0) (getD v p 0)) [
+  | yes e ↦ e
+  | no d ↦ absurd (not-both (b .game) (b .size) (getD w p 0) (getD v p 0) d
+      (either d)
+      (λ q. getD s q 0) (λ q. getD t q 0) _ _ (k .keeps (getD w p 0) (k .two p lt)) (l .keeps (getD v p 0) (l .two p lt)) p (lt, refl) (lt, refl))
+]
+  where
+    either : ¬ (getD w p 0 ≡ getD v p 0) → (q : ℕ) → q < b .size → (b .game .owner q ≡ getD w p 0) ⊎ (b .game .owner q ≡ getD v p 0)
+    either d q h =
+        let x = r .owners q h in
+        let y = k .two p lt in
+        let z = l .two p lt in
+        elim (ℕ-discrete (b .game .owner q) (getD w p 0)) [ yes e ↦ inl e | no n ↦ inr (omega arith) ]

@@ -7,7 +7,7 @@ use native.Mathlib.Omega.{arith}
 use native.Mathlib.Decide.{ℕ-discrete}
 use Rattle.parity.specs.Boards.{Board}
 use Rattle.parity.specs.Sheets.{Sheet}
-use Rattle.parity.specs.Attractors.{Leaks, Drawing, Tried, outside, turned, Swept, Drawn}
+use Rattle.parity.specs.Attractors.{Leaks, Drawing, Tried, Chased, outside, turned, Swept, Drawn}
 use Rattle.parity.proofs.Counts.{outside-lt}
 use Rattle.parity.proofs.Drawings.{drawing-more}
 
@@ -66,6 +66,16 @@ drawing-none b i m a =
       low = λ p h. omega arith;
       sorts = λ p h. inl (record { tag = refl; winner = refl; move = refl });
     }
+
+-- one position after another, and one chase after another
+pub tried-chased : (b : Board) (i m : ℕ) (a z : Sheet) (p : ℕ) (grew : Bool) → Tried (b .game) i m a z p grew → Chased b i m a z
+tried-chased b i m a z p true t =
+    let u = t .joins refl in
+    record { draws = λ first d. drawing-more b i m first a z p (u .1) (u .0) (u .2) (u .3) d }
+tried-chased b i m a z p false t = record { draws = λ first d. subst (Drawing b i m first) (sym (t .stays refl .0)) d }
+
+pub chased-then : (b : Board) (i m : ℕ) (a y z : Sheet) → Chased b i m a y → Chased b i m y z → Chased b i m a z
+chased-then b i m a y z v w = record { draws = λ first d. w .draws first (v .draws first d) }
 
 -- a sweep in which nothing joined leaves nothing to draw in
 pub drawn-end : (b : Board) (i m : ℕ) (first a z : Sheet) (down : Bool) → Drawing b i m first a → Swept b i m a z down (b .size) false → Drawn b i m first z

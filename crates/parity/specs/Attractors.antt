@@ -49,6 +49,10 @@ pub record Tried (g : Game) (i m : ℕ) (before after : Sheet) (p : ℕ) (grew :
   pub joins : grew ≡ true → (before .tag p < m) × (k : ℕ) × Pulls g i m (before .tag) p k × Puts before after p m i k
   pub stays : grew ≡ false → (after ≡ before) × (before .tag p < m → Leaks g i m (before .tag) p)
 
+-- Some positions may have joined the set, and nothing else has changed: what was drawn before is still.
+pub record Chased (b : Board) (i m : ℕ) (before after : Sheet) : Type 0 where
+  pub draws : (first : Sheet) → Drawing b i m first before → Drawing b i m first after
+
 -- How many of the first n positions have a tag below m.
 abbrev pub outside : ℕ → (ℕ → ℕ) → ℕ → ℕ
 outside m t zero = 0

@@ -43,3 +43,7 @@ verdict b winners moves memory = judged (dead-end b) (fitting (b .size) winners 
 pub record Settled (b : Board) (winners moves : List ℕ) : Type 0 where
   pub two : (p : ℕ) → p < b .size → getD winners p 0 ≤ 1
   pub keeps : (i : ℕ) → i ≤ 1 → Keeps (b .game) i (λ p. p < b .size) (λ p. getD moves p 0) (λ p. (p < b .size) × (getD winners p 0 ≡ i))
+
+-- No other winners settle the game: whatever tables do have these winners.
+abbrev pub Sole : Board → List ℕ → Type 0
+Sole b winners = (others moves : List ℕ) → Settled b others moves → (p : ℕ) → p < b .size → getD winners p 0 ≡ getD others p 0

@@ -5,8 +5,11 @@ ghost use lib.ListN.{length, getD};
 ghost use Rattle.std.specs.declared.option.Option.the-variants.{Some, None};
 ghost use Rattle.parity.specs.Boards.{Board};
 ghost use Rattle.parity.specs.Sheets.{sheet, Sized};
-ghost use Rattle.parity.specs.Attractors.{Pulls, Leaks, Tried, Swept, Drawn, turned};
+ghost use Rattle.parity.specs.Attractors.{Pulls, Leaks, Tried, Chased, Swept, Drawn, turned};
 use super::ParityGame;
+use super::hints::Hints;
+use super::hints::append;
+use super::hints::queued;
 
 /// The move by which the player draws the position into the set of the mark, if it does.
 fn pull<G: ParityGame>(
@@ -105,11 +108,112 @@ fn sweep<G: ParityGame>(
     grew
 }
 
-/// Draws into the set of the mark every position of a lower tag from which the player can force a way there.
+/// Joins the position to the set if there is such a position and the player draws it in. Says whether it did.
+fn try_in<G: ParityGame>(
+    game: &G,
+    player: u8,
+    mark: u32,
+    position: usize,
+    tags: &mut [u32],
+    winners: &mut [u32],
+    moves: &mut [u32],
+) -> bool
+    requires { ⌜ Sized (G·ParityGame .board (now game) .size) (now tags) (now winners) (now moves) ⌝ }
+    ensures { λ _. ⌜ Chased (G·ParityGame .board (now (game .entry))) player mark
+        (sheet (now (tags .entry)) (now (winners .entry)) (now (moves .entry)))
+        (sheet (now (tags .exit)) (now (winners .exit)) (now (moves .exit))) ⌝ }
+{
+    if position >= tags.len() {
+        return false;
+    }
+    draw_in(game, player, mark, position, tags, winners, moves)
+}
+
+/// Looks at what leads to the position, and joins to the set and to the queue what the player draws in. Says where
+/// the queue ends now.
+fn follow<G: ParityGame>(
+    game: &G,
+    player: u8,
+    mark: u32,
+    position: usize,
+    end: usize,
+    hints: &Hints<'_>,
+    queue: &mut [u32],
+    tags: &mut [u32],
+    winners: &mut [u32],
+    moves: &mut [u32],
+) -> usize
+    requires { ⌜ Sized (G·ParityGame .board (now game) .size) (now tags) (now winners) (now moves) ⌝ }
+    ensures { λ _. ⌜ Chased (G·ParityGame .board (now (game .entry))) player mark
+        (sheet (now (tags .entry)) (now (winners .entry)) (now (moves .entry)))
+        (sheet (now (tags .exit)) (now (winners .exit)) (now (moves .exit))) ⌝ }
+{
+    let mut end = end;
+    for place in hints.start(position)..hints.end(position) {
+        let source = hints.source(place);
+        if try_in(game, player, mark, source, tags, winners, moves) {
+            end = append(queue, end, source);
+        }
+    }
+    end
+}
+
+/// Queues the positions of the mark, and says where the queue ends.
+fn gather(mark: u32, tags: &[u32], queue: &mut [u32]) -> usize {
+    let mut end = 0;
+    for position in 0..tags.len() {
+        if tags[position] == mark {
+            end = append(queue, end, position);
+        }
+    }
+    end
+}
+
+/// Draws in what the hints lead to, from the set outwards.
+fn chase<G: ParityGame>(
+    game: &G,
+    player: u8,
+    mark: u32,
+    hints: &Hints<'_>,
+    queue: &mut [u32],
+    tags: &mut [u32],
+    winners: &mut [u32],
+    moves: &mut [u32],
+)
+    requires { ⌜ Sized (G·ParityGame .board (now game) .size) (now tags) (now winners) (now moves) ⌝ }
+    ensures { λ _. ⌜ Chased (G·ParityGame .board (now (game .entry))) player mark
+        (sheet (now (tags .entry)) (now (winners .entry)) (now (moves .entry)))
+        (sheet (now (tags .exit)) (now (winners .exit)) (now (moves .exit))) ⌝ }
+{
+    let mut end = gather(mark, tags, queue);
+    for place in 0..queue.len() {
+        if place >= end {
+            return;
+        }
+        let position = queued(queue, place);
+        end = follow(
+            game,
+            player,
+            mark,
+            position,
+            end,
+            hints,
+            queue,
+            tags,
+            winners,
+            moves,
+        );
+    }
+}
+
+/// Draws into the set of the mark every position of a lower tag from which the player can force a way there: first along
+/// the hints, then in sweeps until one finds nothing more.
 pub fn attract<G: ParityGame>(
     game: &G,
     player: u8,
     mark: u32,
+    hints: &Hints<'_>,
+    queue: &mut [u32],
     tags: &mut [u32],
     winners: &mut [u32],
     moves: &mut [u32],
@@ -119,6 +223,7 @@ pub fn attract<G: ParityGame>(
         (sheet (now (tags .entry)) (now (winners .entry)) (now (moves .entry)))
         (sheet (now (tags .exit)) (now (winners .exit)) (now (moves .exit))) ⌝ }
 {
+    chase(game, player, mark, hints, queue, tags, winners, moves);
     let mut down = false;
     while sweep(game, player, mark, down, tags, winners, moves) {
         down = !down;

@@ -2,6 +2,7 @@ ghost use mathlib.Core.Path.{_≡_};
 ghost use Rattle.parity.specs.Boards.{Board, Ranged};
 
 mod attractor;
+mod hints;
 mod recursion;
 mod round;
 pub mod rows;

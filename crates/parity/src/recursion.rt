@@ -3,6 +3,7 @@ ghost use Rattle.parity.specs.Sheets.{sheet, Sized};
 ghost use Rattle.parity.specs.Solving.{Region, Solved};
 use super::ParityGame;
 use super::attractor::attract;
+use super::hints::Hints;
 use super::round::give;
 use super::round::highest;
 use super::round::seed;
@@ -16,6 +17,8 @@ pub fn solve_region<G: ParityGame>(
     game: &G,
     colours: u32,
     bound: u32,
+    hints: &Hints<'_>,
+    queue: &mut [u32],
     tags: &mut [u32],
     winners: &mut [u32],
     moves: &mut [u32],
@@ -34,14 +37,14 @@ pub fn solve_region<G: ParityGame>(
     let other = 1 - player;
     let mark = bound - 2;
     'rounds: while seed(game, top, player, mark, tags, winners, moves) {
-        attract(game, player, mark, tags, winners, moves);
+        attract(game, player, mark, hints, queue, tags, winners, moves);
         let below = highest(game, mark, tags);
-        solve_region(game, below, mark, tags, winners, moves);
+        solve_region(game, below, mark, hints, queue, tags, winners, moves);
         if !give(other, mark, tags, winners) {
             return;
         }
-        attract(game, other, mark + 1, tags, winners, moves);
+        attract(game, other, mark + 1, hints, queue, tags, winners, moves);
     }
     let below = highest(game, mark + 1, tags);
-    solve_region(game, below, mark + 1, tags, winners, moves);
+    solve_region(game, below, mark + 1, hints, queue, tags, winners, moves);
 }

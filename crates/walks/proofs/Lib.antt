@@ -3,3 +3,4 @@ pub mod Keeping
 pub mod Long
 pub mod Attractors
 pub mod Determined
+pub mod Apart

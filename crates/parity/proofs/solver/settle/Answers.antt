@@ -10,7 +10,7 @@ mul-colours g c =
 
 pub solve-region-requires : need.solve-region-requires
 solve-region-requires g c κs =
-    (record { tags = omega arith; winners = omega arith; moves = omega arith }, whole-region _ (c .highest-colours .result) _ (c .clear .ensures) (c .highest-colours .ensures) (c .pre .1))
+    (record { tags = omega arith; winners = omega arith; moves = omega arith }, whole-region _ (c .highest-colours .result) _ (c .clear .ensures) (c .highest-colours .ensures) (c .pre .3))
 
 pub returns : need.returns
 returns g c = whole-settled _ (c .highest-colours .result) _ (c .clear .ensures) (c .highest-colours .ensures) _ _ _ (c .solve-region .ensures)
