@@ -83,7 +83,10 @@ fn obey_hear(
                 let told = tell_turn(rt, &next);
                 (next, told)
             }
-            Err((back, refusal)) => (Turn::Harbours(back), println!(rt, "hear={number}: {refusal}")),
+            Err((back, refusal)) => (
+                Turn::Harbours(back),
+                println!(rt, "hear={number}: {refusal}"),
+            ),
         },
         Turn::Ours(ours) => (Turn::Ours(ours), println!(rt, "hear={number}: out of turn")),
     }

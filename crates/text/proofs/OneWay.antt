@@ -6,15 +6,12 @@ use native.Mathlib.Omega.{arith}
 use lib.Chars.{codes}
 use Rattle.std.specs.declared.option.Option.the-variants.{Some}
 use Rattle.chart.specs.Arena.{Arena}
-use Rattle.chart.specs.Refusals.{Outcome, done, refused}
+use Rattle.chart.specs.Refusals.{Outcome, refused}
 use Rattle.text.specs.Lines.{Line, vertices, vertex, moves, move}
 use Rattle.text.specs.Tokens.{Lined}
 use Rattle.text.specs.Reading.{Due, count-due, vertex-due, move-due, next, Finished, Begins, drawn-by, Reads, whole, wrong, declined, onward}
 use Rattle.text.proofs.Fields.{one-count, one-vertex, one-move, lined-vertices, lined-moves}
-use Rattle.text.proofs.Steps.{none-some}
-
-some-same : {A : Type 0} {x y : A} → Some x ≡ Some y → x ≡ y
-some-same e = cc
+use Rattle.text.proofs.Steps.{none-some, some-same, done-same, done-refused}
 
 -- nothing begins where all is read
 finished-begins : (due : Due) (bytes : List ℕ) (line : Line) (rest : List ℕ) (then : Due) → Finished due bytes → ¬ Begins due bytes line rest then
@@ -89,12 +86,6 @@ one-line : (due : Due) (bytes : List ℕ) (line other : Line) (rest remains : Li
 one-line due bytes line other rest remains then now a b =
     let p = same-line bytes line other rest remains (kind-due due line then (a .expected) ∙ sym (kind-due due other now (b .expected))) (a .lined) (b .lined) in
     (p .0, p .1, some-same (sym (a .expected) ∙ ap (next due) (p .0) ∙ b .expected))
-
-done-refused : {A : Type 0} {x : A} {n p : ℕ} → done x ≡ refused n p → ⊥
-done-refused e = let z : _≡_ {A = ℕ} 0 1 = cc in omega arith
-
-done-same : {A : Type 0} {x y : A} → done x ≡ done y → x ≡ y
-done-same e = cc
 
 refused-same : {A : Type 0} (n p m q : ℕ) → _≡_ {A = Outcome A} (refused n p) (refused m q) → n ≡ m
 refused-same n p m q e = cc

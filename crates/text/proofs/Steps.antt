@@ -6,13 +6,10 @@ use Prim.Native.Nat.{ℕ, zero, suc, _+_, _-_, _≤_, _<_}
 use native.Mathlib.Omega.{arith}
 use lib.Chars.{codes}
 use Rattle.std.specs.declared.option.Option.the-variants.{Some, None}
-use Rattle.std.specs.declared.result.Result.{Result}
-use Rattle.std.specs.declared.result.Result.the-variants.{Ok, Err}
 use Rattle.std.proofs.shelf.Tests.{le-leb, lt-leb, cases-lt}
 use mathlib.Core.Logic.{inl, inr}
-use Rattle.chart.specs.declared.refusal.Refusal.{Refusal}
 use Rattle.chart.specs.Arena.{Arena}
-use Rattle.chart.specs.Refusals.{Outcome, done, refused, outcome}
+use Rattle.chart.specs.Refusals.{Outcome, done, refused}
 use Rattle.drawn.specs.Rules.{blank, place-outcome, placed, join-outcome, joined}
 use Rattle.text.specs.Lines.{Line, vertices, vertex, moves, move}
 use Rattle.text.specs.Tokens.{Counted, Lined}
@@ -22,10 +19,14 @@ use Rattle.text.proofs.Fields.{one-move, vertices-lined, lined-vertices, moves
 pub none-some : {A : Type 0} {x : A} → None ≡ Some x → ⊥
 none-some e = let z : _≡_ {A = ℕ} 0 1 = cc in omega arith
 
--- a call that is not refused is done
-pub not-refused : {A : Type 0} (r : Result A Refusal) (o : Outcome A) → outcome r ≡ o → ((e : Refusal) → r ≡ Err e → ⊥) → (x : A) × (o ≡ done x)
-not-refused (Ok x) o is no-error = (x, sym is)
-not-refused (Err e) o is no-error = absurd (no-error e refl)
+pub some-same : {A : Type 0} {x y : A} → Some x ≡ Some y → x ≡ y
+some-same e = cc
+
+pub done-same : {A : Type 0} {x y : A} → done x ≡ done y → x ≡ y
+done-same e = cc
+
+pub done-refused : {A : Type 0} {x : A} {n p : ℕ} → done x ≡ refused n p → ⊥
+done-refused e = let z : _≡_ {A = ℕ} 0 1 = cc in omega arith
 
 module _ (end : Outcome Arena) (a : Arena) (k : ℕ) (bytes : List ℕ) where
   -- the number of vertices

@@ -21,17 +21,8 @@ use Rattle.drawn.proofs.Outcomes.{join-from}
 use Rattle.text.specs.Lines.{Line, vertices, vertex, moves, move, spelt}
 use Rattle.text.specs.Reading.{Due, count-due, vertex-due, move-due, next, Finished, drawing, drawn-by, Reads, whole, wrong, declined, onward}
 use Rattle.text.specs.Writing.{vertex-line, move-line, move-lines, text-of}
-use Rattle.text.proofs.Steps.{none-some}
+use Rattle.text.proofs.Steps.{none-some, some-same, done-same, done-refused}
 use Rattle.text.proofs.Putting.{joined-append, text-parts}
-
-some-same : {A : Type 0} {x y : A} → Some x ≡ Some y → x ≡ y
-some-same e = cc
-
-done-same : {A : Type 0} {x y : A} → done x ≡ done y → x ≡ y
-done-same e = cc
-
-done-refused : {A : Type 0} {x : A} {n p : ℕ} → done x ≡ refused n p → ⊥
-done-refused e = let z : _≡_ {A = ℕ} 0 1 = cc in omega arith
 
 abbrev Bare : Vertex → Type 0
 Bare v = v .moves ≡ []
