@@ -1,5 +1,4 @@
 use chart::Chart;
-
 use chart::lowest_dead_end;
 use drawn::Drawn;
 use drawn::DrawnChart;

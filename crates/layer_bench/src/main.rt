@@ -86,7 +86,11 @@ fn print_answers<Q: Question, C: Chart>(rt: &LibcRuntime, chart: &C) -> io::Resu
     let all = in_order::<Q, C>(chart, 1);
     let turns = in_turn::<Q, C>(chart, 10_000);
     let word = Q::word();
-    println!(rt, "{word}: {} in order, sum {:x}; {} in turn, sum {:x}", all.asked, all.sum, turns.asked, turns.sum)
+    println!(
+        rt,
+        "{word}: {} in order, sum {:x}; {} in turn, sum {:x}",
+        all.asked, all.sum, turns.asked, turns.sum
+    )
 }
 
 fn print_times<Q: Question>(
@@ -105,9 +109,18 @@ fn print_times<Q: Question>(
     print_ratio::<Q>(rt, "in turn", low, middle, high)
 }
 
-fn print_ratio<Q: Question>(rt: &LibcRuntime, way: &str, low: u128, middle: u128, high: u128) -> io::Result<()> {
+fn print_ratio<Q: Question>(
+    rt: &LibcRuntime,
+    way: &str,
+    low: u128,
+    middle: u128,
+    high: u128,
+) -> io::Result<()> {
     let word = Q::word();
     let ratio = high.saturating_mul(100).checked_div(low).unwrap_or(0);
     let (whole, part) = (ratio / 100, ratio % 100);
-    println!(rt, "{word} {way}: {low} ps drawn, {middle} ps on one layer, {high} ps on two, ratio {whole}.{part:02}")
+    println!(
+        rt,
+        "{word} {way}: {low} ps drawn, {middle} ps on one layer, {high} ps on two, ratio {whole}.{part:02}"
+    )
 }

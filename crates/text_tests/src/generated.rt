@@ -4,18 +4,25 @@ use drawn::Drawn;
 use std::test::*;
 use text::read;
 
-const GOOD: &[u8] = b"vertices=3\nvertex=1,0\nvertex=0,1\nvertex=0,2\nmoves=5\nmove=0,0,5\nmove=0,1,0\nmove=1,2,7\nmove=1,0,5\nmove=2,0,5\n";
+const GOOD: &[u8] =
+    b"vertices=3\nvertex=1,0\nvertex=0,1\nvertex=0,2\nmoves=5\nmove=0,0,5\nmove=0,1,0\nmove=1,2,7\nmove=1,0,5\nmove=2,0,5\n";
 
 const BYTES: &[u8] = b"0123456789,=\nvertxcsmo";
 
 /// The next number of a generator of Knuth's kind.
 fn next(state: u64) -> u64 {
-    state.wrapping_mul(6_364_136_223_846_793_005).wrapping_add(1_442_695_040_888_963_407)
+    state
+        .wrapping_mul(6_364_136_223_846_793_005)
+        .wrapping_add(1_442_695_040_888_963_407)
 }
 
 /// A number below the limit, from the upper half of the state.
 fn below(state: u64, limit: usize) -> usize {
-    if limit == 0 { 0 } else { (state >> 33) as usize % limit }
+    if limit == 0 {
+        0
+    } else {
+        (state >> 33) as usize % limit
+    }
 }
 
 /// The good text with one byte changed; answers whether it was still read.

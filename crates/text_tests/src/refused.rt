@@ -23,7 +23,9 @@ fn broken_texts_2() -> Result<(), Fail> {
     refused(b"vertices=1\nvertex=0,0,\nmoves=0\n", 23, 2).note("an extra comma")?;
     refused(b"vertices=1\nvertex=0,0,0\nmoves=0\n", 23, 2).note("an extra number")?;
     refused(b"Vertices=0\nmoves=0\n", 23, 1).note("upper case")?;
-    refused(b"vertices=0\nmoves=0\nvertices=0\nmoves=0\n", 23, 3).note("a second text behind the first")
+    refused(b"vertices=0\nmoves=0\nvertices=0\nmoves=0\n", 23, 3).note(
+        "a second text behind the first",
+    )
 }
 
 #[test]
@@ -32,7 +34,11 @@ fn broken_texts_3() -> Result<(), Fail> {
     refused(b"vertices=\xff\nmoves=0\n", 23, 1).note("a byte above 127")?;
     refused(b"vertices=1\nmoves=0\nvertex=0,0\n", 23, 2).note("vertices behind moves")?;
     refused(b"vertices=0\nmoves=0\n\n", 23, 3).note("a line end for an end")?;
-    refused(b"vertices=2\nvertex=0,0\nvertex=0,0\nmoves=2\nmove=1,0,0\nmove=0,0,0\n", 23, 6).note("a falling vertex")?;
+    refused(
+        b"vertices=2\nvertex=0,0\nvertex=0,0\nmoves=2\nmove=1,0,0\nmove=0,0,0\n",
+        23,
+        6,
+    ).note("a falling vertex")?;
     refused(b"vertices=1\nvertex=0,0\nmoves=2\nmove=0,0,0\n", 23, 5).note("too few moves")?;
     refused(b"vertices=1\nvertex=0,0\nmoves=0\nmove=0,0,0\n", 23, 4).note("too many moves")?;
     refused(b"vertices=1\nvertex=2,0\nmoves=0\n", 1, 2).note("an owner of 2")

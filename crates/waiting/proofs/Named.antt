@@ -31,9 +31,9 @@ module _ (a : Arena) where
       let k = there a p h in
       let l = level-in-low a p in
       cond-true (sound (spot a p)) _ None
-          (and-from (may-be-laid a) _ (k .0)
-          (and-from (ltb (vertex-in a p) (size a)) _ (lt-ltb _ _ (vertex-in-low a p (k .1)))
-          (and-from (ltb (level-in a p) (levels a)) _ (lt-ltb _ _ (omega arith)) (lt-ltb (stage-in p) 2 (omega arith)))))
+      (and-from (may-be-laid a) _ (k .0)
+      (and-from (ltb (vertex-in a p) (size a)) _ (lt-ltb _ _ (vertex-in-low a p (k .1)))
+      (and-from (ltb (level-in a p) (levels a)) _ (lt-ltb _ _ (omega arith)) (lt-ltb (stage-in p) 2 (omega arith)))))
       ∙ ap Some (place-in p)
 
   -- the position that has a number is the one that lies there
@@ -60,7 +60,7 @@ module _ (a : Arena) where
     spot-is =
         let b = bounds .1 in
         subst (λ n. spot a n ≡ x) number-is
-            (rw (vertex-in-place a (x .below) (x .level) (x .stage) (b .1 .0) (b .1 .1), level-in-place a (x .below) (x .level) (x .stage) (b .1 .0) (b .1 .1), stage-in-place a (x .below) (x .level) (x .stage) (b .1 .0) (b .1 .1)) refl)
+        (rw (vertex-in-place a (x .below) (x .level) (x .stage) (b .1 .0) (b .1 .1), level-in-place a (x .below) (x .level) (x .stage) (b .1 .0) (b .1 .1), stage-in-place a (x .below) (x .level) (x .stage) (b .1 .0) (b .1 .1)) refl)
 
     pub located-is : located a p ≡ Some x
     located-is =
@@ -97,7 +97,7 @@ module _ (a : Arena) where
         by-name h (Some y) w f =
             let same : renamed (spot a p) y ≡ x = cc in
             subst (λ z. finding-over a finding z ≡ Some p) same
-                (ap (λ o. and-then o (λ v. number-of a (renamed (renamed (spot a p) y) v))) (k .back (vertex-in a p) y w) ∙ number-there p h)
+            (ap (λ o. and-then o (λ v. number-of a (renamed (renamed (spot a p) y) v))) (k .back (vertex-in a p) y w) ∙ number-there p h)
 
     forth-over : (p : ℕ) (x : Position N) → finding-over a finding x ≡ Some p → naming-over a naming p ≡ Some x
     forth-over p x e = by-vertex (finding (x .below)) refl e
