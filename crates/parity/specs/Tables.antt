@@ -5,9 +5,9 @@ use lib.ListN.{length, getD}
 use Rattle.parity.specs.Boards.{Board}
 use Rattle.parity.specs.Clips.{clip}
 
--- As many positions as there are owners. Position p has its owner and its colour at p, and its moves
--- stand in the targets from start p up to start (p + 1). A number past a table's end is read as 0,
--- and what lies out of range is clipped, so that any tables make a game.
+-- As many positions as there are owners. Position p has its owner and its colour at p, and its
+-- moves stand in the targets from start p up to start (p + 1). A number past a table's end is read
+-- as 0, and what lies out of range is clipped, so that any tables make a game.
 abbrev pub tabled : List ℕ → List ℕ → List ℕ → List ℕ → Board
 tabled owners colours starts targets =
     clip (record {
