@@ -1,3 +1,4 @@
+pub mod Clips
 pub mod Counts
 pub mod Drawings
 pub mod Highest

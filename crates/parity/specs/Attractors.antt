@@ -1,4 +1,5 @@
--- How a player draws positions into the set of a mark m, within the positions of a tag of at most m.
+-- How a player draws positions into the set of a mark m, within the positions of a tag of at most
+-- m.
 use mathlib.Core.Path.{_≡_}
 use mathlib.Core.Bool.{Bool, true, false, cond}
 use mathlib.Core.Logic.{_⊎_}
@@ -13,12 +14,14 @@ pub record Pulls (g : Game) (i m : ℕ) (t : ℕ → ℕ) (p k : ℕ) : Type 0 w
   pub ours : g .owner p ≡ i → (k < g .degree p) × (t (g .target p k) ≡ m)
   pub theirs : ¬ (g .owner p ≡ i) → (l : ℕ) → l < g .degree p → m ≤ t (g .target p l)
 
--- Player i cannot draw p in: none of its moves ends in the set, or one of the other's stays outside.
+-- Player i cannot draw p in: none of its moves ends in the set, or one of the other's stays
+-- outside.
 pub record Leaks (g : Game) (i m : ℕ) (t : ℕ → ℕ) (p : ℕ) : Type 0 where
   pub ours : g .owner p ≡ i → (l : ℕ) → l < g .degree p → ¬ (t (g .target p l) ≡ m)
   pub theirs : ¬ (g .owner p ≡ i) → (l : ℕ) × (l < g .degree p) × (t (g .target p l) < m)
 
--- From p the play falls into the set, to a lower rank: by i's move, or by each of the other's that stays.
+-- From p the play falls into the set, to a lower rank: by i's move, or by each of the other's that
+-- stays.
 pub record Falls (g : Game) (i m : ℕ) (t s rank : ℕ → ℕ) (p : ℕ) : Type 0 where
   pub ours : g .owner p ≡ i → (s p < g .degree p) × (t (g .target p (s p)) ≡ m) × (rank (g .target p (s p)) < rank p)
   pub theirs : ¬ (g .owner p ≡ i) → (l : ℕ) → l < g .degree p → t (g .target p l) ≤ m → (t (g .target p l) ≡ m) × (rank (g .target p l) < rank p)
@@ -30,7 +33,8 @@ pub record Joined (g : Game) (i m : ℕ) (a b : Sheet) (rank : ℕ → ℕ) (p :
   pub winner : b .winner p ≡ i
   pub falls : Falls g i m (b .tag) (b .move) rank p
 
--- Since the sheet a, some positions have joined the set, at ranks below ranks, and nothing else has changed.
+-- Since the sheet a, some positions have joined the set, at ranks below ranks, and nothing else has
+-- changed.
 pub record Drawing (b : Board) (i m : ℕ) (before after : Sheet) : Type 0 where
   pub rank : ℕ → ℕ
   pub ranks : ℕ
@@ -49,7 +53,8 @@ pub record Tried (g : Game) (i m : ℕ) (before after : Sheet) (p : ℕ) (grew :
   pub joins : grew ≡ true → (before .tag p < m) × (k : ℕ) × Pulls g i m (before .tag) p k × Puts before after p m i k
   pub stays : grew ≡ false → (after ≡ before) × (before .tag p < m → Leaks g i m (before .tag) p)
 
--- Some positions may have joined the set, and nothing else has changed: what was drawn before is still.
+-- Some positions may have joined the set, and nothing else has changed: what was drawn before is
+-- still.
 pub record Chased (b : Board) (i m : ℕ) (before after : Sheet) : Type 0 where
   pub draws : (first : Sheet) → Drawing b i m first before → Drawing b i m first after
 
@@ -62,8 +67,8 @@ outside m t (suc n) = cond (ltb (t n) m) 1 0 + outside m t n
 abbrev pub turned : Bool → ℕ → ℕ → ℕ
 turned down n p = cond down (n - 1 - p) p
 
--- A sweep has passed some places, and says whether a position joined. If none did, each position that
--- it passed and that stands outside cannot be drawn in.
+-- A sweep has passed some places, and says whether a position joined. If none did, each position
+-- that it passed and that stands outside cannot be drawn in.
 pub record Swept (b : Board) (i m : ℕ) (before after : Sheet) (down : Bool) (places : ℕ) (grew : Bool) : Type 0 where
   pub draws : (first : Sheet) → Drawing b i m first before → Drawing b i m first after
   pub most : outside m (after .tag) (b .size) ≤ outside m (before .tag) (b .size)

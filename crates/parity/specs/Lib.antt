@@ -1,8 +1,9 @@
 pub mod Attractors
 pub mod Boards
+pub mod Clips
+pub mod ClipsRanged
 pub mod Promise
 pub mod Rounds
 pub mod Sheets
 pub mod Solving
 pub mod Tables
-pub mod TablesRanged

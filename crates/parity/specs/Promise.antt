@@ -25,8 +25,8 @@ lowest test (suc n) = or-else (lowest test n) (cond (test n) (Some n) None)
 abbrev pub dead-end : Board → Option ℕ
 dead-end b = lowest (λ p. eqb (b .game .degree p) 0) (b .size)
 
--- How the lengths of the winners, the moves and the memory are judged: a table must have a number for
--- each position, and the memory eight.
+-- How the lengths of the winners, the moves and the memory are judged: a table must have a number
+-- for each position, and the memory eight.
 abbrev pub fitting : ℕ → ℕ → ℕ → ℕ → Outcome (Unit {0})
 fitting size winners moves memory =
     cond (ltb winners size) (refused 10 0) (cond (ltb moves size) (refused 10 0) (cond (ltb memory (8 * size)) (refused 11 0) (done tt)))

@@ -5,8 +5,8 @@ use Rattle.walks.specs.Games.{Keeps}
 use Rattle.parity.specs.Boards.{Board}
 use Rattle.parity.specs.Sheets.{Sheet, Kept, Under, Marked}
 
--- The region of the tags below bound: all of them 0, each position with a move that stays in it, every
--- colour below c, and two marks left for each colour.
+-- The region of the tags below bound: all of them 0, each position with a move that stays in it,
+-- every colour below c, and two marks left for each colour.
 pub record Region (b : Board) (c bound : ℕ) (a : Sheet) : Type 0 where
   pub room : c + c ≤ bound
   pub fresh : (p : ℕ) → p < b .size → a .tag p < bound → a .tag p ≡ 0

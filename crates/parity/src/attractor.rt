@@ -1,9 +1,7 @@
 ghost use mathlib.Core.Path.{_≡_};
-ghost use mathlib.Core.Bool.{true, false};
-ghost use Prim.Native.Nat.{_<_, _≤_, _^_};
+ghost use Prim.Native.Nat.{_<_};
 ghost use lib.ListN.{length, getD};
 ghost use Rattle.std.specs.declared.option.Option.the-variants.{Some, None};
-ghost use Rattle.parity.specs.Boards.{Board};
 ghost use Rattle.parity.specs.Sheets.{sheet, Sized};
 ghost use Rattle.parity.specs.Attractors.{Pulls, Leaks, Tried, Chased, Swept, Drawn, turned};
 use super::ParityGame;
@@ -82,7 +80,8 @@ fn turn(down: bool, size: usize, place: usize) -> usize
     if down { size - 1 - place } else { place }
 }
 
-/// One sweep over all positions, up or down: each that the player draws in joins. Says whether one did.
+/// One sweep over all positions, up or down: each that the player draws in joins. Says whether one
+/// did.
 fn sweep<G: ParityGame>(
     game: &G,
     player: u8,
@@ -108,7 +107,8 @@ fn sweep<G: ParityGame>(
     grew
 }
 
-/// Joins the position to the set if there is such a position and the player draws it in. Says whether it did.
+/// Joins the position to the set if there is such a position and the player draws it in. Says
+/// whether it did.
 fn try_in<G: ParityGame>(
     game: &G,
     player: u8,
@@ -129,8 +129,8 @@ fn try_in<G: ParityGame>(
     draw_in(game, player, mark, position, tags, winners, moves)
 }
 
-/// Looks at what leads to the position, and joins to the set and to the queue what the player draws in. Says where
-/// the queue ends now.
+/// Looks at what leads to the position, and joins to the set and to the queue what the player draws
+/// in. Says where the queue ends now.
 fn follow<G: ParityGame>(
     game: &G,
     player: u8,
@@ -206,8 +206,8 @@ fn chase<G: ParityGame>(
     }
 }
 
-/// Draws into the set of the mark every position of a lower tag from which the player can force a way there: first along
-/// the hints, then in sweeps until one finds nothing more.
+/// Draws into the set of the mark every position of a lower tag from which the player can force a
+/// way there: first along the hints, then in sweeps until one finds nothing more.
 pub fn attract<G: ParityGame>(
     game: &G,
     player: u8,

@@ -45,9 +45,9 @@ fn fill<G: ParityGame>(game: &G, heads: &mut [u32], sources: &mut [u32]) {
     }
 }
 
-/// Notes, for each position, from where moves lead to it: the list of a position ends at its head, and
-/// begins at the head before. The lists only hint at where to look; what does not fit is left out, and
-/// nothing that is promised rests on them.
+/// Notes, for each position, from where moves lead to it: the list of a position ends at its head,
+/// and begins at the head before. The lists only hint at where to look; what does not fit is left
+/// out, and nothing that is promised rests on them.
 pub fn note<G: ParityGame>(game: &G, heads: &mut [u32], sources: &mut [u32]) {
     for position in 0..heads.len() {
         put(heads, position, 0);

@@ -10,9 +10,9 @@ use super::round::seed;
 
 /// Solves the region of the tags below the bound, whose colours are below the number of colours.
 ///
-/// The player of the highest colour draws in what it can, and what is left is solved by itself. What
-/// the other player wins there, and what it draws in from there, is its for good; so it goes on with
-/// the rest until the other wins nothing more.
+/// The player of the highest colour draws in what it can, and what is left is solved by itself.
+/// What the other player wins there, and what it draws in from there, is its for good; so it goes
+/// on with the rest until the other wins nothing more.
 pub fn solve_region<G: ParityGame>(
     game: &G,
     colours: u32,

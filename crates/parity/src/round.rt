@@ -1,5 +1,5 @@
 ghost use mathlib.Core.Path.{_≡_};
-ghost use Prim.Native.Nat.{_+_, _<_, _≤_, _^_};
+ghost use Prim.Native.Nat.{_+_, _<_, _^_};
 ghost use lib.ListN.{length, getD};
 ghost use Rattle.parity.specs.Sheets.{sheet, Sized};
 ghost use Rattle.parity.specs.Rounds.{Stays, Seeded, SeededAt, Highest, Given};

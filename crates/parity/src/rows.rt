@@ -2,7 +2,7 @@ ghost use mathlib.Core.Path.{_≡_};
 ghost use denote.Ref.{now};
 ghost use lib.ListN.{getD};
 ghost use Rattle.parity.specs.Tables.{tabled};
-ghost use Rattle.parity.specs.TablesRanged.{tabled-ranged};
+ghost use Rattle.parity.specs.ClipsRanged.{clip-ranged};
 use super::ParityGame;
 
 /// The most positions that plain tables can hold.
@@ -35,7 +35,7 @@ fn number_at(table: &[u32], place: usize) -> u32
 pub impl<'a> ParityGame for Rows<'a> as RowsGame {
     ghost board = { λ t. tabled (now (t .owners)) (now (t .colours)) (now (t .starts)) (now (t .targets)) };
 
-    ghost ranged = { λ t. tabled-ranged (now (t .owners)) (now (t .colours)) (now (t .starts)) (now (t .targets)) };
+    ghost ranged = { λ t. clip-ranged _ };
 
     fn size(&self) -> usize {
         let size = self.owners.len();

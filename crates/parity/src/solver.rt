@@ -35,7 +35,8 @@ fn clear(tags: &mut [u32])
     }
 }
 
-/// Solves a game in which every position has a move, in tables of just its size and memory of eight times that.
+/// Solves a game in which every position has a move, in tables of just its size and memory of eight
+/// times that.
 fn settle<G: ParityGame>(game: &G, winners: &mut [u32], moves: &mut [u32], memory: &mut [u32])
     requires { ⌜ length (now winners) ≡ G·ParityGame .board (now game) .size ⌝ }
     requires { ⌜ length (now moves) ≡ G·ParityGame .board (now game) .size ⌝ }

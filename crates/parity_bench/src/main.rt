@@ -29,8 +29,8 @@ fn zeros(table: &[u32], size: usize) -> u32 {
     count
 }
 
-/// Lays a game in tables of its size, solves it, and prints what player 0 wins, with the time taken if
-/// it is asked for.
+/// Lays a game in tables of its size, solves it, and prints what player 0 wins, with the time taken
+/// if it is asked for.
 fn measure<'a>(
     rt: &LibcRuntime,
     plan: &Plan,

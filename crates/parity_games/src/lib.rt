@@ -178,8 +178,8 @@ impl Plan {
         }
     }
 
-    /// The number by which the position goes: its own, or one shuffled among them. The size of a shuffled
-    /// game is a power of two.
+    /// The number by which the position goes: its own, or one shuffled among them. The size of a
+    /// shuffled game is a power of two.
     fn label(&self, position: u64) -> usize {
         let number = if self.shuffled {
             position.wrapping_mul(0x9e37_79b1).wrapping_add(self.seed)
@@ -189,8 +189,8 @@ impl Plan {
         rest(number, self.size) as usize
     }
 
-    /// Writes the game into tables: a number for each position in the first three, one more among the starts,
-    /// and four for each among the targets.
+    /// Writes the game into tables: a number for each position in the first three, one more among
+    /// the starts, and four for each among the targets.
     pub fn lay(
         &self,
         owners: &mut [u8],
@@ -243,9 +243,9 @@ fn toll(position: u64, number: u64) -> u64 {
     end.wrapping_mul(2).wrapping_add(1)
 }
 
-/// In a nest, where a move ends. An even position of a chain shows its colour and leads to the step before
-/// it. An odd one leads to itself, to the even one beside it, or to the last step of the next chain, so
-/// that the chains below are won anew each time that a chain above is.
+/// In a nest, where a move ends. An even position of a chain shows its colour and leads to the step
+/// before it. An odd one leads to itself, to the even one beside it, or to the last step of the
+/// next chain, so that the chains below are won anew each time that a chain above is.
 fn nested(size: u64, position: u64, number: u64) -> u64 {
     let double = 2 * (size / 20);
     let colour = chain_colour(size, position);

@@ -18,8 +18,8 @@ fn same(first: &[u32], second: &[u32], size: usize) -> bool {
     true
 }
 
-/// Whether the game is solved, each player keeps its half by the moves given, and the rival, where it is allowed
-/// any steps, finds the same winners.
+/// Whether the game is solved, each player keeps its half by the moves given, and the rival, where
+/// it is allowed any steps, finds the same winners.
 fn agrees<'a>(game: &Rows<'a>, size: usize, steps: usize) -> bool {
     let mut winners = [7; 4096];
     let mut moves = [7; 4096];

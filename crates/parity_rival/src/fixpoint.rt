@@ -6,7 +6,8 @@ pub fn get(table: &[u32], place: usize) -> u32 {
     if place < table.len() { table[place] } else { 0 }
 }
 
-/// Who wins the position as it is guessed so far: the player of its colour, or the other where the guess is turned.
+/// Who wins the position as it is guessed so far: the player of its colour, or the other where the
+/// guess is turned.
 fn guess<G: ParityGame>(game: &G, turned: &[u32], position: usize) -> u32 {
     (u32::from(game.colour(position)) % 2) ^ (get(turned, position) % 2)
 }
@@ -22,7 +23,8 @@ fn speaks_for<G: ParityGame>(game: &G, turned: &[u32], player: u32, position: us
     owner != player
 }
 
-/// Turns the guesses at positions of the colour that one step on speaks against; says whether any turned.
+/// Turns the guesses at positions of the colour that one step on speaks against; says whether any
+/// turned.
 fn turn<G: ParityGame>(game: &G, turned: &mut [u32], colour: u8) -> bool {
     let mut some = false;
     for position in 0..game.size() {
@@ -56,9 +58,9 @@ fn highest<G: ParityGame>(game: &G) -> u8 {
     top
 }
 
-/// A second way to solve a game, with no attractor and no recursion: guess that the player of each colour wins there, turn
-/// guesses that one step on speaks against, lowest colours first, and begin again below whenever one turns. Gives up after
-/// as many steps as it is allowed.
+/// A second way to solve a game, with no attractor and no recursion: guess that the player of each
+/// colour wins there, turn guesses that one step on speaks against, lowest colours first, and begin
+/// again below whenever one turns. Gives up after as many steps as it is allowed.
 pub fn rival<G: ParityGame>(game: &G, winners: &mut [u32], steps: usize) -> bool {
     let top = highest(game);
     for place in 0..winners.len() {

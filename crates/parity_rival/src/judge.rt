@@ -2,7 +2,8 @@ use super::fixpoint::get;
 use parity::ParityGame;
 use parity_games::put;
 
-/// Whether a move may be played by the moves of the table: the one of the table where the player moves, else any.
+/// Whether a move may be played by the moves of the table: the one of the table where the player
+/// moves, else any.
 fn plays<G: ParityGame>(
     game: &G,
     player: u32,
@@ -32,7 +33,8 @@ fn stays<G: ParityGame>(game: &G, winners: &[u32], moves: &[u32], position: usiz
     true
 }
 
-/// Tables for a search: where it has been, and what is to be looked at. Each search leaves its own sign.
+/// Tables for a search: where it has been, and what is to be looked at. Each search leaves its own
+/// sign.
 fn returns<G: ParityGame>(
     game: &G,
     winners: &[u32],
@@ -69,8 +71,8 @@ fn returns<G: ParityGame>(
     false
 }
 
-/// Whether each player keeps its half by its moves: no play leaves it, and none comes back to a position of the
-/// other's colour without a higher one between.
+/// Whether each player keeps its half by its moves: no play leaves it, and none comes back to a
+/// position of the other's colour without a higher one between.
 pub fn kept<G: ParityGame>(
     game: &G,
     winners: &[u32],

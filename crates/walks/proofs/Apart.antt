@@ -97,8 +97,8 @@ module _ (E : ℕ → ℕ → Type 0) (f : ℕ → ℕ) (go : (k : ℕ) → E (f
       subst (λ k. Walk (Inside Q E) (f a) (f k)) e
       (step (h a (omega arith) (omega arith), h (suc a) (omega arith) (omega arith), go a) (along Q (suc a) n (λ k l m. h k (omega arith) (omega arith))))
 
-  -- from a place a on, f comes back to where it was: the highest position on that loop is on a loop with
-  -- no higher colour
+  -- from a place a on, f comes back to where it was: the highest position on that loop is on a loop
+  -- with no higher colour
   around : (colour : ℕ → ℕ) (a n : ℕ) → f a ≡ f (a + suc n) → (c : ℕ) × Loop colour E (f c)
   around colour a n same =
       let r = peak (λ k. colour (f k)) a n in
