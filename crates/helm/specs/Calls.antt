@@ -1,6 +1,6 @@
 -- What begin, steer and hear answer, and the tally that they leave, as functions of the chart and of their arguments.
 -- A refused call leaves the tally as it stood.
-use mathlib.Core.Bool.{Bool, cond, _&&_, _||_}
+use mathlib.Core.Bool.{cond, _&&_, _||_}
 use mathlib.Core.List.{List, map}
 use Prim.Native.Nat.{ℕ, _+_, _/_, max}
 use lib.Dec.{eqb, leb, ltb}

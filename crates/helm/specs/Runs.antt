@@ -4,7 +4,7 @@ use mathlib.Core.List.{List, [], _∷_}
 use Prim.Native.Nat.{ℕ}
 use lib.ListN.{length, getD}
 use Rattle.chart.specs.Arena.{Arena, Ranged}
-use Rattle.chart.specs.Refusals.{Outcome, done}
+use Rattle.chart.specs.Refusals.{done}
 use Rattle.game.specs.Voyages.{Voyage, worst-wait, highest-waiting}
 use Rattle.game.specs.Held.{standing, Follows}
 use Rattle.helm.specs.declared.turns.Record.{Record}
