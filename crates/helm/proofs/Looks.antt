@@ -4,16 +4,15 @@ use mathlib.Core.List.{List}
 use Prim.Native.Nat.{ℕ, _≤_, _<_}
 use native.Mathlib.Omega.{arith}
 use native.Mathlib.Decide.{decLe}
-use lib.ListN.{length, getD}
+use lib.ListN.{length}
 use Rattle.std.specs.declared.option.Option.{Option}
 use Rattle.std.specs.declared.option.Option.the-variants.{Some, None}
 use Rattle.std.specs.Options.{mapped}
 use Rattle.std.specs.shelf.Maps.{nth}
 use Rattle.std.proofs.shelf.Maps.{nth-getD}
-use Rattle.chart.specs.Arena.{Arena, Vertex, size, vertex-at, move-at, and-then}
+use Rattle.chart.specs.Arena.{Arena, Vertex, vertex-at, move-at, and-then}
 use Rattle.chart.specs.declared.parts.Move.{Move}
 use Rattle.chart.specs.declared.parts.Player.{Player}
-use Rattle.chart.specs.declared.parts.Player.the-variants.{Controller, Harbour}
 use Rattle.chart.specs.Players.{numbered}
 use Rattle.game.specs.Reading.{no-move, no-vertex, row, owner-of, colour-of, degree-of, target-of, cost-of}
 use Rattle.game.proofs.Readings.{nth-low, row-is, row-past, degree-is, target-is, cost-is}

@@ -3,15 +3,14 @@ use mathlib.Core.Path.{_≡_, refl, sym, ap, _∙_}
 use mathlib.Core.Bool.{Bool, true, false, cond, _&&_, not}
 use mathlib.Core.Logic.{_⊎_, inl, inr}
 use mathlib.Core.List.{List, [], _∷_, _++_}
-use Prim.Native.Nat.{ℕ, zero, suc, _+_, _-_, _*_, _%_, _≤_, _<_, max}
+use Prim.Native.Nat.{ℕ, suc, _+_, _%_, _≤_}
 use native.Mathlib.Omega.{arith}
 use lib.Dec.{eqb, ltb}
-use lib.ListN.{length}
 use Rattle.std.proofs.shelf.Tests.{eq-eqb, eqb-true}
 use Rattle.std.proofs.shelf.Ways.{tells}
 use Rattle.chart.specs.Arena.{Arena}
 use Rattle.game.specs.Reading.{colour-of, target-of, cost-of}
-use Rattle.game.specs.Voyages.{reached, requests, answers, wait, wait-at, worst-wait, unanswered}
+use Rattle.game.specs.Voyages.{reached, answers, wait, unanswered}
 use Rattle.theory.proofs.Sailing.{wait-join}
 use Rattle.helm.specs.Tally.{met}
 
@@ -87,7 +86,7 @@ module _ (a : Arena) (q : ℕ) where
       ∙ later-step k q b u c (wait a q v (n ∷ ms)) (oldest (target-of a v n) ms)))
 
   -- the oldest waits no longer than a request from the start would
-  oldest-low : (v : ℕ) (ms : List ℕ) → unanswered a q v ms ≡ true → oldest v ms ≤ suc (wait a q v ms)
+  pub oldest-low : (v : ℕ) (ms : List ℕ) → unanswered a q v ms ≡ true → oldest v ms ≤ suc (wait a q v ms)
   oldest-low v [] e = one (eqb (colour-of a v) q)
     where
       one : (b : Bool) → cond b 1 0 ≤ 1

@@ -1,15 +1,14 @@
 -- The ways through steer and hear.
-use mathlib.Core.Path.{_≡_, refl, sym, ap, _∙_}
+use mathlib.Core.Path.{_≡_, sym, ap, _∙_}
 use mathlib.Core.Bool.{Bool, true, false, cond, _||_}
 use mathlib.Core.List.{List}
 use Prim.Native.Nat.{ℕ, _≤_, _<_}
-use native.Mathlib.Omega.{arith}
 use lib.Dec.{leb, ltb}
 use lib.ListN.{length}
 use Rattle.std.proofs.shelf.Tests.{le-leb, lt-leb, le-ltb, or-from, cond-true, cond-false}
 use Rattle.chart.specs.Arena.{Arena, size}
 use Rattle.chart.specs.declared.parts.Move.{Move}
-use Rattle.game.specs.Reading.{colour-of, degree-of, target-of, cost-of}
+use Rattle.game.specs.Reading.{colour-of, degree-of, target-of}
 use Rattle.helm.specs.Tally.{on-first}
 use Rattle.helm.specs.States.{State, Reply, went, stayed}
 use Rattle.helm.specs.Calls.{half, waits-passed, sailed, state-moved, tally-moved, moving, planned, steer-reply, hear-reply, tally-left}

@@ -1,25 +1,26 @@
 -- Whole runs: after each call the run stands where the voyage made so far does.
 use mathlib.Core.Path.{_≡_, refl, sym, subst, ap, _∙_}
-use mathlib.Core.Bool.{Bool, true, false, cond, _&&_, _||_}
+use mathlib.Core.Bool.{_&&_, _||_}
 use mathlib.Core.Logic.{_⊎_, inl, inr}
 use mathlib.Core.List.{List, [], _∷_, _++_, map}
-use Prim.Native.Nat.{ℕ, suc, _+_, _≤_, _<_, max}
+use Prim.Native.Nat.{ℕ, _+_, _≤_, _<_, max}
 use native.Mathlib.Omega.{arith}
 use lib.Dec.{leb, ltb, eqb}
 use lib.ListN.{length, getD, take, drop}
-use Rattle.std.proofs.shelf.Lists.{append-nil, append-assoc, length-append, length-take-le, length-push, take-at}
+use Rattle.std.proofs.shelf.Lists.{append-nil, append-assoc, length-take-le, length-push, take-at}
 use Rattle.std.proofs.shelf.Tests.{cases-bool, cases-lt, cond-true, cond-false, or-parts, ltb-false, leb-false}
 use Rattle.chart.specs.Arena.{Arena, Ranged, size}
-use Rattle.chart.specs.Refusals.{Outcome, done, refused}
+use Rattle.chart.specs.Refusals.{done, refused}
 use Rattle.game.specs.Reading.{owner-of, colour-of, degree-of, target-of, cost-of}
 use Rattle.game.specs.Voyages.{Voyage, reached, requests, worst-wait, highest-waiting}
 use Rattle.game.specs.Held.{standing, Follows}
 use Rattle.theory.proofs.Sailing.{reached-join, voyage-push, follows-push}
 use Rattle.helm.specs.Tally.{grown, longest, highest-open, on-first}
-use Rattle.helm.specs.States.{State, Reply, went, stayed, finished}
-use Rattle.helm.specs.Calls.{half, waits-begun, waits-passed, state-begun, state-moved, tally-moved, begin-outcome, begin-tally, tally-done, moving, planned, steer-reply, hear-reply, tally-left}
-use Rattle.helm.specs.Runs.{Call, steer, hear, Run, turn-for, reply, called, after-all, AsTurnsFall, asked, adding, made, state-in, RecordOf, Recorded, RecordsTheVoyage}
+use Rattle.helm.specs.States.{State, Reply, went, stayed}
+use Rattle.helm.specs.Calls.{half, waits-begun, waits-passed, state-begun, state-moved, tally-moved, begin-outcome, begin-tally, tally-done, moving, planned, tally-left}
+use Rattle.helm.specs.Runs.{Call, steer, hear, Run, turn-for, reply, called, after-all, AsTurnsFall, asked, adding, made, state-in, Recorded, RecordsTheVoyage}
 use Rattle.helm.proofs.Replies.{moving-absent, moving-over, moving-on}
+use Rattle.helm.proofs.Worst.{either-none}
 use Rattle.helm.proofs.Told.{Tells, tells-begun, highest-told, worst-told, tells-moved}
 
 module _ (a : Arena) (ran : Ranged a) (plan : List ℕ) (start : ℕ) where
@@ -88,30 +89,17 @@ module _ (a : Arena) (ran : Ranged a) (plan : List ℕ) (start : ℕ) where
     run : called a plan r c ≡ moved r (asked plan r c)
     one : (ms : List ℕ) → adding (reply a plan r c) (asked plan r c) ms ≡ asked plan r c ∷ ms
 
+  called-is : (r : Run) (c : Call) (x : Reply) → reply a plan r c ≡ x →
+      called a plan r c ≡ record { state = state-in x; tally = tally-left x (tally-moved a (r .state) (asked plan r c) (r .tally)) (r .tally) }
+  called-is r steer x e = ap (λ y. record { state = state-in y; tally = tally-left y (tally-moved a (r .state) (planned plan (r .state)) (r .tally)) (r .tally) }) e
+  called-is r (hear m) x e = ap (λ y. record { state = state-in y; tally = tally-left y (tally-moved a (r .state) m (r .tally)) (r .tally) }) e
+
   stays : (r : Run) (c : Call) (n p : ℕ) → reply a plan r c ≡ stayed n p (r .state) → Stays r c
-  stays r steer n p e = record {
-    run = ap (λ x. record { state = state-in x; tally = tally-left x (tally-moved a (r .state) (planned plan (r .state)) (r .tally)) (r .tally) }) e;
-    none = λ ms. ap (λ x. adding x (planned plan (r .state)) ms) e;
-  }
-  stays r (hear m) n p e = record {
-    run = ap (λ x. record { state = state-in x; tally = tally-left x (tally-moved a (r .state) m (r .tally)) (r .tally) }) e;
-    none = λ ms. ap (λ x. adding x m ms) e;
-  }
+  stays r c n p e = record { run = called-is r c _ e; none = λ ms. ap (λ x. adding x (asked plan r c) ms) e }
 
   goes : (r : Run) (c : Call) → asked plan r c < degree-of a (r .state .vertex) → r .state .moves < 1000000 →
       reply a plan r c ≡ went (state-moved a (r .state) (asked plan r c) (r .tally)) → Goes r c
-  goes r steer h k e = record {
-    move = h;
-    few = k;
-    run = ap (λ x. record { state = state-in x; tally = tally-left x (tally-moved a (r .state) (planned plan (r .state)) (r .tally)) (r .tally) }) e;
-    one = λ ms. ap (λ x. adding x (planned plan (r .state)) ms) e;
-  }
-  goes r (hear m) h k e = record {
-    move = h;
-    few = k;
-    run = ap (λ x. record { state = state-in x; tally = tally-left x (tally-moved a (r .state) m (r .tally)) (r .tally) }) e;
-    one = λ ms. ap (λ x. adding x m ms) e;
-  }
+  goes r c h k e = record { move = h; few = k; run = called-is r c _ e; one = λ ms. ap (λ x. adding x (asked plan r c) ms) e }
 
   -- the last two questions of a call
   moving-cases : (r : Run) (c : Call) (n : ℕ) → reply a plan r c ≡ moving a (r .state) (asked plan r c) (r .tally) n → Stays r c ⊎ Goes r c
@@ -175,14 +163,10 @@ module _ (a : Arena) (ran : Ranged a) (plan : List ℕ) (start : ℕ) where
         there = refl;
         turn = refl;
         moves = refl;
-        worst = none (requests a start);
+        worst = sym (either-none (requests a start));
         waiting = highest-told a ran start [] _ on;
         tells = subst (Tells a start []) (sym (take-at (waits-begun a start us) (drop (half a) ts) (half a) (on .long))) on;
       }
-    where
-      none : (b : Bool) → 0 ≡ cond {A = ℕ} b 0 0
-      none true = refl
-      none false = refl
 
 -- a begin that is not refused has room in the tally, and gives the start's state
 record Begun (a : Arena) (marks ts : List ℕ) (start : ℕ) (s : State) : Type 0 where

@@ -1,11 +1,11 @@
 -- The worst wait and the highest waiting colour of a voyage, by the oldest waits of the odd colours.
-use mathlib.Core.Path.{_≡_, refl, sym, subst, ap, _∙_}
-use mathlib.Core.Bool.{Bool, true, false, cond, _&&_, not}
-use mathlib.Core.Logic.{_⊎_, inl, inr}
+use mathlib.Core.Path.{_≡_, refl, subst, ap, _∙_}
+use mathlib.Core.Bool.{Bool, true, false, cond, _&&_}
+use mathlib.Core.Logic.{inl, inr}
 use mathlib.Core.List.{List, [], _∷_, _++_}
-use Prim.Native.Nat.{ℕ, zero, suc, _+_, _-_, _*_, _%_, _≤_, _<_, max}
+use Prim.Native.Nat.{ℕ, zero, suc, _+_, _*_, _%_, _≤_, _<_, max}
 use native.Mathlib.Omega.{arith}
-use lib.Dec.{eqb, ltb}
+use lib.Dec.{eqb}
 use lib.ListN.{length}
 use Rattle.std.proofs.shelf.Tests.{eq-eqb, eqb-true, and-parts, cases-lt}
 use Rattle.chart.specs.Arena.{Arena, Ranged}
@@ -13,12 +13,16 @@ use Rattle.game.specs.Reading.{colour-of, target-of, cost-of}
 use Rattle.game.specs.Voyages.{reached, requests, answers, wait, wait-at, worst-wait, unanswered, waits-on, still-waiting, highest, highest-waiting}
 use Rattle.game.proofs.Readings.{colour-low, cost-low}
 use Rattle.theory.proofs.Sailing.{wait-join}
-use Rattle.helm.proofs.Oldest.{longer, longer-some, oldest, oldest-falls, oldest-here, oldest-cases}
+use Rattle.helm.proofs.Oldest.{longer, longer-some, oldest, oldest-low, oldest-falls, oldest-here, oldest-cases}
 
 longer-mono : (c s t : ℕ) → s ≤ t → longer c s ≤ longer c t
 longer-mono c zero t h = omega arith
 longer-mono c (suc s) zero h = absurd (omega arith)
 longer-mono c (suc s) (suc t) h = let e = longer-some c s in let f = longer-some c t in omega arith
+
+pub either-none : (b : Bool) → cond {A = ℕ} b 0 0 ≡ 0
+either-none true = refl
+either-none false = refl
 
 module _ (a : Arena) where
   -- the cost of the move m after the moves ms from v
@@ -26,11 +30,10 @@ module _ (a : Arena) where
   last-cost v ms m = cost-of a (reached a v ms) m
 
   wait-more : (q v : ℕ) (ms : List ℕ) (m : ℕ) → wait a q v (ms ++ m ∷ []) ≡ wait a q v ms + cond (unanswered a q v ms) (last-cost v ms m) 0
-  wait-more q v ms m = wait-join a q v ms (m ∷ []) ∙ ap (λ c. wait a q v ms + cond (unanswered a q v ms) c 0) (none (last-cost v ms m) (answers a q (target-of a (reached a v ms) m)))
-    where
-      none : (c : ℕ) (x : Bool) → c + cond x 0 0 ≡ c
-      none c true = omega arith
-      none c false = omega arith
+  wait-more q v ms m =
+      let none = either-none (answers a q (target-of a (reached a v ms) m)) in
+      let last : last-cost v ms m + cond (answers a q (target-of a (reached a v ms) m)) 0 0 ≡ last-cost v ms m = omega arith in
+      wait-join a q v ms (m ∷ []) ∙ ap (λ c. wait a q v ms + cond (unanswered a q v ms) c 0) last
 
   -- one more move, within a bound
   module _ (B : ℕ) where
@@ -52,12 +55,8 @@ module _ (a : Arena) where
     pub worst-within : (v : ℕ) (ms : List ℕ) (m : ℕ) → worst-wait a v ms ≤ B → ((q : ℕ) → q % 2 ≡ 1 → longer (last-cost v ms m) (oldest a q v ms) ≤ suc B) → worst-wait a v (ms ++ m ∷ []) ≤ B
     worst-within v [] m h k =
         let x = at-within v [] m h k in
-        let y : wait-at a (target-of a v m) [] ≡ 0 = none (requests a (target-of a v m)) in
+        let y = either-none (requests a (target-of a v m)) in
         omega arith
-      where
-        none : (b : Bool) → cond {A = ℕ} b 0 0 ≡ 0
-        none true = refl
-        none false = refl
     worst-within v (n ∷ ms) m h k =
         let x = at-within v (n ∷ ms) m (omega arith) k in
         let y = worst-within (target-of a v n) ms m (omega arith) (λ q o. let l = k q o in let f = longer-mono (last-cost v (n ∷ ms) m) _ _ (oldest-falls a q v n ms) in omega arith) in
@@ -76,11 +75,14 @@ module _ (a : Arena) where
 
   -- the oldest wait of a colour is one of the waits
   module _ (q : ℕ) (odd : q % 2 ≡ 1) where
+    asks-here : (v : ℕ) → colour-of a v ≡ q → requests a v ≡ true
+    asks-here v e = eq-eqb (colour-of a v % 2) 1 (ap (λ n. n % 2) e ∙ odd)
+
     at-met : (v : ℕ) (ms : List ℕ) (m : ℕ) → colour-of a v ≡ q → unanswered a q v ms ≡ true → longer (last-cost v ms m) (oldest a q v ms) ≤ suc (wait-at a v (ms ++ m ∷ []))
     at-met v ms m e u =
         let o = oldest-here a q v ms e u in
         let s = longer-some (last-cost v ms m) (wait a q v ms) in
-        let asks : requests a v ≡ true = eq-eqb (colour-of a v % 2) 1 (ap (λ n. n % 2) e ∙ odd) in
+        let asks = asks-here v e in
         let w : wait-at a v (ms ++ m ∷ []) ≡ wait a q v (ms ++ m ∷ []) = rw (asks, e) in
         let x : wait a q v (ms ++ m ∷ []) ≡ wait a q v ms + last-cost v ms m = rw u at (wait-more q v ms m) in
         rw o (omega arith)
@@ -95,9 +97,6 @@ module _ (a : Arena) where
       | inl x ↦ let h = at-met v (n ∷ ms) m (x .0) (x .1) in omega arith
       | inr e ↦ let h = worst-met (target-of a v n) ms m in rw e (omega arith)
     ]
-
-    asks-here : (v : ℕ) → colour-of a v ≡ q → requests a v ≡ true
-    asks-here v e = eq-eqb (colour-of a v % 2) 1 (ap (λ n. n % 2) e ∙ odd)
 
     waits-highest : (v : ℕ) (ms xs : List ℕ) → colour-of a v ≡ q → unanswered a q v ms ≡ true → q ≤ highest (waits-on a v ms xs)
     waits-highest v ms xs e u =
@@ -178,11 +177,7 @@ module _ (a : Arena) where
         go c w n false h k = omega arith
 
     pub oldest-bounded : (v : ℕ) (ms : List ℕ) → oldest a q v ms ≤ suc (10000 * length ms)
-    oldest-bounded v [] = go (eqb (colour-of a v) q)
-      where
-        go : (b : Bool) → cond b 1 0 ≤ 1
-        go true = omega arith
-        go false = omega arith
+    oldest-bounded v [] = oldest-low a q v [] refl
     oldest-bounded v (m ∷ ms) = elim (oldest-cases a q v m ms) [
       | inl x ↦ let e = x .2 in let w = wait-bounded v (m ∷ ms) in omega arith
       | inr e ↦ let k = oldest-bounded (target-of a v m) ms in omega arith

@@ -1,6 +1,6 @@
 -- What begin, steer and hear answer, and the tally that they leave, as functions of the chart and of their arguments.
 -- A refused call leaves the tally as it stood.
-use mathlib.Core.Bool.{Bool, cond, _&&_, _||_}
+use mathlib.Core.Bool.{cond, _&&_, _||_}
 use mathlib.Core.List.{List, map}
 use Prim.Native.Nat.{ℕ, _+_, _/_, max}
 use lib.Dec.{eqb, leb, ltb}
@@ -55,11 +55,12 @@ begin-outcome a marks ts start =
     cond (ltb start (size a) && eqb (getD marks start 0) 1) (done (state-begun a start ts)) (
     refused 21 0))
 
--- the new tally where the call was done, the old one where it was refused
+-- The new tally where the call was done, the old one where it was refused
 abbrev pub tally-done : Outcome State → List ℕ → List ℕ → List ℕ
 tally-done (done s) new old = new
 tally-done (refused n p) new old = old
 
+-- The tally that begin leaves.
 abbrev pub begin-tally : Arena → List ℕ → List ℕ → ℕ → List ℕ
 begin-tally a marks ts start = tally-done (begin-outcome a marks ts start) (on-first (half a) (waits-begun a start) ts) ts
 
@@ -90,13 +91,15 @@ hear-reply a m ts s =
     cond (ltb (length ts) (half a)) (stayed 10 0 s) (
     moving a s m ts 7))
 
--- the new tally where the call went on, the old one where it was refused
+-- The new tally where the call went on, the old one where it was refused
 abbrev pub tally-left : Reply → List ℕ → List ℕ → List ℕ
 tally-left (went s) new old = new
 tally-left (stayed n p s) new old = old
 
+-- The tally that steer leaves.
 abbrev pub steer-tally : Arena → List ℕ → List ℕ → State → List ℕ
 steer-tally a plan ts s = tally-left (steer-reply a plan ts s) (tally-moved a s (planned plan s) ts) ts
 
+-- The tally that hear leaves.
 abbrev pub hear-tally : Arena → ℕ → List ℕ → State → List ℕ
 hear-tally a m ts s = tally-left (hear-reply a m ts s) (tally-moved a s m ts) ts

@@ -4,7 +4,7 @@ use mathlib.Core.List.{List, [], _∷_}
 use Prim.Native.Nat.{ℕ}
 use lib.ListN.{length, getD}
 use Rattle.chart.specs.Arena.{Arena, Ranged}
-use Rattle.chart.specs.Refusals.{Outcome, done}
+use Rattle.chart.specs.Refusals.{done}
 use Rattle.game.specs.Voyages.{Voyage, worst-wait, highest-waiting}
 use Rattle.game.specs.Held.{standing, Follows}
 use Rattle.helm.specs.declared.turns.Record.{Record}
@@ -26,6 +26,7 @@ pub record Run : Type 0 where
   pub state : State
   pub tally : List ℕ
 
+-- What the call answers.
 abbrev pub reply : Arena → List ℕ → Run → Call → Reply
 reply a plan r steer = steer-reply a plan (r .tally) (r .state)
 reply a plan r (hear m) = hear-reply a m (r .tally) (r .state)
@@ -35,14 +36,16 @@ abbrev pub state-in : Reply → State
 state-in (went s) = s
 state-in (stayed n p s) = s
 
+-- The tally that the call leaves.
 abbrev pub tally-by : Arena → List ℕ → Run → Call → List ℕ
 tally-by a plan r steer = steer-tally a plan (r .tally) (r .state)
 tally-by a plan r (hear m) = hear-tally a m (r .tally) (r .state)
 
--- The run after a call, and after a list of calls.
+-- The run after a call.
 abbrev pub called : Arena → List ℕ → Run → Call → Run
 called a plan r c = record { state = state-in (reply a plan r c); tally = tally-by a plan r c }
 
+-- The run after a list of calls.
 abbrev pub after-all : Arena → List ℕ → Run → List Call → Run
 after-all a plan r [] = r
 after-all a plan r (c ∷ cs) = after-all a plan (called a plan r c) cs
@@ -76,12 +79,12 @@ pub record RecordOf (a : Arena) (plan : List ℕ) (start : ℕ) (ms : List ℕ) 
   pub worst : r .worst ≡ worst-wait a start ms
   pub waiting : r .waiting ≡ highest-waiting a start ms
 
--- From where a run stands, the start of a voyage: after a list of calls as the turns fall, refused ones included, with one chart,
--- plan and tally that nothing else changes, what finish gives is the record of the voyage made by the calls that were not refused.
+-- The run r stands at the start of a voyage. After any list of calls as the turns fall, refused ones included, with one chart, plan
+-- and tally that nothing else changes, what finish gives is the record of the voyage made by the calls that were not refused.
 abbrev pub Recorded : Arena → List ℕ → ℕ → Run → Type 0
 Recorded a plan start r = (cs : List Call) → AsTurnsFall a plan r cs → RecordOf a plan start (made a plan r cs) (finished (after-all a plan r cs .state))
 
--- So it is after every begin that was not refused, on every chart.
+-- So it is on every chart, after every begin that was not refused.
 abbrev pub RecordsTheVoyage : Type 0
 RecordsTheVoyage =
     (a : Arena) → Ranged a → (marks plan tally : List ℕ) (start : ℕ) (s : State) → begin-outcome a marks tally start ≡ done s →

@@ -20,12 +20,15 @@ pub record State : Type 0 where
   pub worst : ℕ
   pub waiting : ℕ
 
+-- What our turn says.
 abbrev pub ours : OurTurn → State
 ours t = record { turn = 0; vertex = t .vertex; moves = t .moves; worst = t .worst; waiting = t .waiting }
 
+-- What the harbour's turn says.
 abbrev pub harbours : HarbourTurn → State
 harbours t = record { turn = 1; vertex = t .vertex; moves = t .moves; worst = t .worst; waiting = t .waiting }
 
+-- What a turn of either kind says.
 abbrev pub state-of : Turn → State
 state-of (Ours t) = ours t
 state-of (Harbours t) = harbours t
@@ -44,10 +47,12 @@ pub data Reply : Type 0 where
   went : State → Reply
   stayed : ℕ → ℕ → State → Reply
 
+-- A steer's answer as a reply.
 abbrev pub steered : Result Turn (OurTurn × Refusal) → Reply
 steered (Ok t) = went (state-of t)
 steered (Err x) = stayed (number-of (x .1)) (place-of (x .1)) (ours (x .0))
 
+-- A hear's answer as a reply.
 abbrev pub heard : Result Turn (HarbourTurn × Refusal) → Reply
 heard (Ok t) = went (state-of t)
 heard (Err x) = stayed (number-of (x .1)) (place-of (x .1)) (harbours (x .0))
