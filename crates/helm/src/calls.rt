@@ -173,6 +173,18 @@ pub fn hear<C: Chart>(
     Ok(sail(chart, tally, step, turn.moves, turn.worst))
 }
 
+impl Turn {
+    /// The vertex that the voyage has reached.
+    pub fn vertex(&self) -> usize
+        ensures { λ r. ⌜ r ≡ state-of (now (self .entry)) .vertex ⌝ }
+    {
+        match self {
+            Turn::Ours(ours) => ours.vertex,
+            Turn::Harbours(theirs) => theirs.vertex,
+        }
+    }
+}
+
 /// Ends a voyage at either turn, and takes its slip back.
 pub fn finish(turn: Turn, slip: Slip) -> Record
     ensures { λ r. ⌜ r ≡ finished (state-of turn) ⌝ }

@@ -1,5 +1,3 @@
-ghost use mathlib.Core.Path.{_≡_};
-
 /// Our turn: the voyage stands at a vertex of the controller, and only `steer` goes on.
 #[derive(Drop)]
 pub struct OurTurn {
@@ -9,15 +7,6 @@ pub struct OurTurn {
     pub(crate) waiting: u8,
 }
 
-impl OurTurn {
-    /// The vertex reached.
-    pub fn vertex(&self) -> usize
-        ensures { λ r. ⌜ r ≡ now (self .entry) .vertex ⌝ }
-    {
-        self.vertex
-    }
-}
-
 /// The harbour's turn: one hears its move first.
 #[derive(Drop)]
 pub struct HarbourTurn {
@@ -25,15 +14,6 @@ pub struct HarbourTurn {
     pub(crate) moves: u32,
     pub(crate) worst: u64,
     pub(crate) waiting: u8,
-}
-
-impl HarbourTurn {
-    /// The vertex reached.
-    pub fn vertex(&self) -> usize
-        ensures { λ r. ⌜ r ≡ now (self .entry) .vertex ⌝ }
-    {
-        self.vertex
-    }
 }
 
 /// Whoever's turn it is.
