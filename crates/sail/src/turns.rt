@@ -94,14 +94,9 @@ fn obey_hear(
 
 /// Whose turn it is, and where.
 pub fn tell_turn(rt: &LibcRuntime, turn: &Turn) -> io::Result<()> {
+    let vertex = turn.vertex();
     match turn {
-        Turn::Ours(ours) => {
-            let vertex = ours.vertex();
-            println!(rt, "our turn at {vertex}")
-        }
-        Turn::Harbours(harbours) => {
-            let vertex = harbours.vertex();
-            println!(rt, "the harbour's turn at {vertex}")
-        }
+        Turn::Ours(_) => println!(rt, "our turn at {vertex}"),
+        Turn::Harbours(_) => println!(rt, "the harbour's turn at {vertex}"),
     }
 }
