@@ -1,0 +1,3 @@
+pub mod OneAnswer
+pub mod Accepting
+pub mod Promised
