@@ -1,0 +1,5 @@
+pub mod OneAnswer
+pub mod Accepting
+pub mod Sheets
+pub mod Promised
+pub mod Searching
