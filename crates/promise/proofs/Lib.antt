@@ -3,3 +3,4 @@ pub mod Accepting
 pub mod Sheets
 pub mod Promised
 pub mod Searching
+pub mod Tests
