@@ -4,3 +4,4 @@ pub mod Sheets
 pub mod Promised
 pub mod Searching
 pub mod Tests
+pub mod Answering
