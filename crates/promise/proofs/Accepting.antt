@@ -98,7 +98,7 @@ module _ (a : Arena) (r : Ranged a) (t : Tables) (bound room : ℕ) where
   moves-everywhere dead v h = elim (ℕ-discrete (degree-of a v) 0) [ yes e ↦ absurd (dead v (h, e)) | no n ↦ omega arith ]
 
   module _ (ok : may-be-laid a ≡ true) where
-    met-low : {p : ℕ} → Met a t p → Spot a p
+    pub met-low : {p : ℕ} → Met a t p → Spot a p
     met-low (begun {v} h n) = first-low a r v h
     met-low (led {p} w e) = subst (Spot a) (e .3) (spot-leads a r ok p (e .0) (e .1))
 

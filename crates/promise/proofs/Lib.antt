@@ -3,3 +3,5 @@ pub mod Accepting
 pub mod Sheets
 pub mod Promised
 pub mod Searching
+pub mod Tests
+pub mod Answering
