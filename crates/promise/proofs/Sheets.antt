@@ -143,24 +143,28 @@ module _ (a : Arena) (few : positions a ≤ 4096) (low : a .height ≤ 28) (befo
   not-refused moves long bound p even-loop h x = omega arith
 
   solved-exactly : (o : Outcome (ℕ × ℕ)) → Solved a before after room o → WritesAClaim a after room o ↔ (EveryVertexMoves a × Suffices a before room)
-  solved-exactly (done x) s =
-      ((λ w. ((λ v h. elim (decLe 1 (degree-of a v)) [ yes k ↦ k | no n ↦ absurd (s .0 .0 dead-end v (h, omega arith)) ]),
-      (long, elim (decLe (12 * positions a) room) [ yes k ↦ k | no n ↦ absurd (s .0 .0 short-memory 0 (refl, omega arith)) ]))),
-      λ k. (x, refl, s .0))
+  solved-exactly (done x) s = (
+    (λ w. (
+      (λ v h. elim (decLe 1 (degree-of a v)) [ yes k ↦ k | no n ↦ absurd (s .0 .0 dead-end v (h, omega arith)) ]),
+      (long, elim (decLe (12 * positions a) room) [ yes k ↦ k | no n ↦ absurd (s .0 .0 short-memory 0 (refl, omega arith)) ]),
+    )),
+    λ k. (x, refl, s .0),
+  )
     where
       long : LongEnough a before
       long = elim (dec-long a after) [
         | no n ↦ absurd (s .0 .0 short-table 0 (refl, n))
         | yes l ↦ record {
-            marks = (let e = s .2 .marks .long in let k = l .marks in omega arith);
-            plan = (let e = s .2 .plan .long in let k = l .plan in omega arith);
-            counterplay = (let e = s .2 .counterplay .long in let k = l .counterplay in omega arith);
-          }
+          marks = (let e = s .2 .marks .long in let k = l .marks in omega arith);
+          plan = (let e = s .2 .plan .long in let k = l .plan in omega arith);
+          counterplay = (let e = s .2 .counterplay .long in let k = l .counterplay in omega arith);
+        }
       ]
   solved-exactly (refused n p) s =
-      let c = s .1 0 in
-      ((λ w. absurd (let e = w .1 in let z : _≡_ {A = ℕ} 0 1 = cc in omega arith)),
-      λ k. absurd (not-refused (k .0) (k .1) 0 p (c .0) (let h = s .0 in let e = c .1 in omega arith) (c .2 .applies)))
+      let c = s .1 0 in (
+        (λ w. absurd (let e = w .1 in let z : _≡_ {A = ℕ} 0 1 = cc in omega arith)),
+        λ k. absurd (not-refused (k .0) (k .1) 0 p (c .0) (let h = s .0 in let e = c .1 in omega arith) (c .2 .applies)),
+      )
 
 pub drawn-charts-are-solved : DrawnChartsAreSolved
 drawn-charts-are-solved cs =
