@@ -1,6 +1,8 @@
 //! The games of the benchmark, solved as one would without proofs: the same recursion over colours with lists of
-//! predecessors, and priority promotion, which the proved solver does not use. Prints, for each game, what player 0
-//! wins, the calls and attractors of the recursion with its time, and the attractors of priority promotion with its.
+//! predecessors, and two methods that the proved solver does not use: priority promotion, and a recursion that solves
+//! one strongly connected part at a time. Prints, for each game, its positions and moves, what player 0 wins, the
+//! calls, attractors and passes of the recursion with its time, and the attractors of the other two with theirs.
+//! A pass is one turn of the loop that takes out the other player's gains.
 
 use std::time::Instant;
 
@@ -25,6 +27,8 @@ enum Family {
     Way,
     Tolls,
     Nest,
+    /// A nest in which each chain can go back to the one below, so that they lie on common loops.
+    Tied,
 }
 
 fn mixed(seed: u64, first: u64, second: u64) -> u64 {
@@ -54,7 +58,7 @@ fn owner(family: Family, size: u64, seed: u64, p: u64) -> u8 {
         Family::Ladder | Family::Way => p % 2,
         Family::Steps => p / 3 % 2,
         Family::Tolls => p / 2 % 2,
-        Family::Nest => {
+        Family::Nest | Family::Tied => {
             let player = chain_colour(size, p) % 2;
             if p % 2 == 0 { 1 - player } else { player }
         }
@@ -68,7 +72,7 @@ fn colour(family: Family, size: u64, seed: u64, p: u64) -> u8 {
         Family::Steps => p * COLOURS / size % COLOURS,
         Family::Way => if p + 1 == size { 10 } else { p % 10 },
         Family::Tolls => if p % 2 == 1 { 9 } else { p / 2 % 9 },
-        Family::Nest => {
+        Family::Nest | Family::Tied => {
             let colour = chain_colour(size, p);
             if p % 2 == 0 || colour == 0 { colour } else { colour - 1 }
         }
@@ -117,11 +121,14 @@ fn end(family: Family, size: u64, seed: u64, p: u64, number: u64) -> u64 {
                 _ => v * 7,
             }) * 2 + 1
         }
-        Family::Nest => {
+        Family::Nest | Family::Tied => {
             let double = 2 * (size / 20);
             let colour = chain_colour(size, p);
             if double == 0 || colour == 0 {
                 return p;
+            }
+            if family == Family::Tied && colour > 1 && p % 2 == 0 && number == 3 {
+                return (colour - 2) * double + double - 2;
             }
             if p % 2 == 1 && number > 1 && colour < 10 {
                 return colour * double + double - 2;
@@ -155,6 +162,16 @@ fn lay(family: Family, size: u64, seed: u64, shuffled: bool) -> Game {
 struct Counts {
     calls: u64,
     attractors: u64,
+    passes: u64,
+}
+
+/// What the search for strongly connected parts has met: when each position was met, the earliest that it leads back
+/// to, and the positions whose part is not known yet.
+struct Search {
+    met: Vec<u32>,
+    low: Vec<u32>,
+    open: Vec<u32>,
+    count: u32,
 }
 
 impl Game {
@@ -247,6 +264,7 @@ impl Game {
             if !some {
                 break;
             }
+            counts.passes += 1;
             counts.attractors += 1;
             self.attract(player, mark, tags, winners, moves, queue);
             let below = self.highest(mark, tags);
@@ -272,7 +290,7 @@ impl Game {
         self.note();
         let n = self.size();
         let (mut tags, mut winners, mut moves, mut queue) = (vec![0; n], vec![0; n], vec![0; n], Vec::with_capacity(n));
-        let mut counts = Counts { calls: 0, attractors: 0 };
+        let mut counts = Counts { calls: 0, attractors: 0, passes: 0 };
         let colours = self.highest(1, &tags);
         self.recur(colours, 2 * colours, &mut tags, &mut winners, &mut moves, &mut queue, &mut counts);
         (winners, counts)
@@ -361,6 +379,122 @@ impl Game {
         }
         (winners, attractors)
     }
+
+    /// The positions from which the player reaches the set inside, the set included.
+    fn attractor(&self, player: u8, inside: &[bool], set: &[u32], counts: &mut Counts) -> Vec<u32> {
+        counts.attractors += 1;
+        let mut taken = vec![false; self.size()];
+        let mut queue = set.to_vec();
+        for &p in set {
+            taken[p as usize] = true;
+        }
+        let mut next = 0;
+        while next < queue.len() {
+            let q = queue[next] as usize;
+            next += 1;
+            for place in self.heads[q]..self.heads[q + 1] {
+                let p = self.sources[place as usize] as usize;
+                if inside[p] && !taken[p] && (self.owner[p] == player || self.ends(p).iter().all(|&q| !inside[q as usize] || taken[q as usize])) {
+                    taken[p] = true;
+                    queue.push(p as u32);
+                }
+            }
+        }
+        queue
+    }
+
+    /// The strongly connected part that p closes, if it closes one, joins the list after all parts that it leads to.
+    fn close(&self, inside: &[bool], search: &mut Search, parts: &mut Vec<Vec<u32>>, p: usize) {
+        search.count += 1;
+        search.met[p] = search.count;
+        search.low[p] = search.count;
+        search.open.push(p as u32);
+        for &q in self.ends(p) {
+            let q = q as usize;
+            if inside[q] {
+                if search.met[q] == 0 {
+                    self.close(inside, search, parts, q);
+                }
+                search.low[p] = search.low[p].min(search.low[q]);
+            }
+        }
+        if search.low[p] == search.met[p] {
+            let from = search.open.iter().rposition(|&q| q as usize == p).unwrap();
+            let part = search.open.split_off(from);
+            for &q in &part {
+                search.low[q as usize] = u32::MAX;
+            }
+            parts.push(part);
+        }
+    }
+
+    /// Solves the positions inside one strongly connected part at a time, those that lead nowhere else first.
+    fn by_parts(&self, inside: &mut [bool], winners: &mut [u32], counts: &mut Counts) {
+        let n = self.size();
+        let mut search = Search { met: vec![0; n], low: vec![0; n], open: vec![], count: 0 };
+        let mut parts = vec![];
+        for p in 0..n {
+            if inside[p] && search.met[p] == 0 {
+                self.close(inside, &mut search, &mut parts, p);
+            }
+        }
+        for part in parts {
+            let left: Vec<u32> = part.into_iter().filter(|&p| inside[p as usize]).collect();
+            if left.is_empty() {
+                continue;
+            }
+            self.part(&left, winners, counts);
+            for player in 0..2 {
+                let won: Vec<u32> = left.iter().copied().filter(|&p| winners[p as usize] == player as u32).collect();
+                if !won.is_empty() {
+                    for p in self.attractor(player, inside, &won, counts) {
+                        winners[p as usize] = player as u32;
+                        inside[p as usize] = false;
+                    }
+                }
+            }
+        }
+    }
+
+    /// Solves one part, which its moves do not leave, by its highest colour.
+    fn part(&self, part: &[u32], winners: &mut [u32], counts: &mut Counts) {
+        counts.calls += 1;
+        let top = part.iter().map(|&p| self.colour[p as usize]).max().unwrap();
+        let player = top % 2;
+        let mut inside = vec![false; self.size()];
+        for &p in part {
+            inside[p as usize] = true;
+            winners[p as usize] = player as u32;
+        }
+        if part.len() == 1 {
+            return;
+        }
+        let highest: Vec<u32> = part.iter().copied().filter(|&p| self.colour[p as usize] == top).collect();
+        let mut below = inside.clone();
+        for p in self.attractor(player, &inside, &highest, counts) {
+            below[p as usize] = false;
+        }
+        self.by_parts(&mut below, winners, counts);
+        let gains: Vec<u32> = part.iter().copied().filter(|&p| winners[p as usize] != player as u32).collect();
+        if gains.is_empty() {
+            return;
+        }
+        counts.passes += 1;
+        for p in self.attractor(1 - player, &inside, &gains, counts) {
+            winners[p as usize] = 1 - player as u32;
+            inside[p as usize] = false;
+        }
+        self.by_parts(&mut inside, winners, counts);
+    }
+
+    fn connected(&mut self) -> (Vec<u32>, Counts) {
+        self.note();
+        let mut winners = vec![2u32; self.size()];
+        let mut counts = Counts { calls: 0, attractors: 0, passes: 0 };
+        let mut inside = vec![true; self.size()];
+        self.by_parts(&mut inside, &mut winners, &mut counts);
+        (winners, counts)
+    }
 }
 
 fn run(family: Family, size: u64, shuffled: bool) {
@@ -371,13 +505,25 @@ fn run(family: Family, size: u64, shuffled: bool) {
     let start = Instant::now();
     let (others, attractors) = game.promotion(2_000_000);
     let second = start.elapsed().as_micros();
+    let start = Instant::now();
+    let (thirds, parts) = game.connected();
+    let third = start.elapsed().as_micros();
     let won = winners.iter().filter(|&&w| w == 0).count();
-    let same = if winners == others { "agree" } else { "DIFFER" };
+    let verdict = |other: &[u32]| if winners == other { "agree" } else if other.contains(&2) { "given up" } else { "DIFFER" };
     let order = if shuffled { "shuffled" } else { "in order" };
     println!(
-        "{family:?}, {order}: {size} positions, player 0 wins {won}, {} calls, {} attractors, {first} microseconds; promotion {attractors} attractors, {second} microseconds, {same}",
-        counts.calls, counts.attractors
+        "{family:?}, {order}: {size} positions, {} moves, player 0 wins {won}, {} calls, {} attractors, {} passes, {first} microseconds; \
+         promotion {attractors} attractors, {second} microseconds, {}; parts {} attractors, {third} microseconds, {}",
+        game.target.len(), counts.calls, counts.attractors, counts.passes, verdict(&others), parts.attractors, verdict(&thirds)
     );
+}
+
+/// Parts alone, on nests that are too long for the other two.
+fn run_parts(family: Family, size: u64) {
+    let mut game = lay(family, size, 1, false);
+    let start = Instant::now();
+    let (_, parts) = game.connected();
+    println!("{family:?}, in order: {size} positions; parts {} attractors, {} microseconds", parts.attractors, start.elapsed().as_micros());
 }
 
 fn main() {
@@ -388,7 +534,12 @@ fn main() {
             }
         }
     }
-    for size in [20, 40, 60, 80, 100] {
-        run(Family::Nest, size, false);
+    for family in [Family::Nest, Family::Tied] {
+        for size in [20, 40, 60, 80, 100] {
+            run(family, size, false);
+        }
+        for size in [120, 140, 160, 180, 200] {
+            run_parts(family, size);
+        }
     }
 }
