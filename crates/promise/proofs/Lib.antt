@@ -5,3 +5,4 @@ pub mod Promised
 pub mod Searching
 pub mod Tests
 pub mod Answering
+pub mod Cases
