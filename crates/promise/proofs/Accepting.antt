@@ -9,6 +9,7 @@ use lib.Dec.{eqb, leb, ltb}
 use Rattle.chart.specs.Arena.{Arena, size, Ranged}
 use Rattle.walks.specs.Games.{Inside, Loop}
 use Rattle.walks.proofs.Walks.{walk-map}
+use Rattle.walks.proofs.Attractors.{find}
 use Rattle.game.specs.Reading.{owner-of, colour-of, degree-of}
 use Rattle.game.specs.Waiting.{stage-in, vertex-in, positions, may-be-laid, waiting}
 use Rattle.game.specs.Claims.{PlanStep, SafePlan, by-entry, Reached, begun, led, SafeCounter}
@@ -58,6 +59,20 @@ module _ (a : Arena) (s : ℕ → ℕ) (M N : ℕ → Type 0) (f : (v : ℕ) →
         met = λ v n. let x = k .met v (g v n) in (x .0, x .1, f _ (x .2), x .3, x .4);
         none = λ n. k .none (λ v m. n v (f v m));
       }
+
+-- there is one worst wait
+pub one-greatest : (a : Arena) (t : Tables) (x y : ℕ) → GreatestWait a (Marked a t) (plan-of t) x → GreatestWait a (Marked a t) (plan-of t) y → x ≡ y
+one-greatest a t x y g h = elim (find (Marked a t) (dec-marked a t) (size a)) [
+  | inl f ↦
+      let p = g .met (f .0) (f .2) in
+      let q = h .met (f .0) (f .2) in
+      let i = h .over (p .0) (p .1) (p .2) (p .3) in
+      let j = g .over (q .0) (q .1) (q .2) (q .3) in
+      let d = p .4 in
+      let e = q .4 in
+      omega arith
+  | inr none ↦ g .none (λ v m. none v (m .0) m) ∙ sym (h .none (λ v m. none v (m .0) m))
+]
 
 -- no place at which the cause applies; the bound and the room are those of the claim
 module _ (a : Arena) (r : Ranged a) (t : Tables) (bound room : ℕ) where

@@ -1,18 +1,21 @@
 -- Claims on the worked charts, written out by hand and put to the rules: each is accepted, and with one entry changed it is
 -- refused with the number expected. A few cases change two entries, to come to a rule that no single change comes to.
-use mathlib.Core.Path.{_≡_, refl, sym, subst, ap}
-use mathlib.Core.List.{List, [], _∷_, map}
-use Prim.Native.Nat.{ℕ}
+use mathlib.Core.Path.{_≡_, refl, subst}
+use mathlib.Core.List.{List, [], _∷_}
+use Prim.Native.Nat.{ℕ, _<_}
 use native.Mathlib.Omega.{arith}
-use lib.ListN.{replicate, set}
+use lib.ListN.{getD, replicate, set}
 use Rattle.std.specs.shelf.Lists.{All}
-use Rattle.chart.specs.Arena.{Arena, Ranged}
+use Rattle.chart.specs.Arena.{Arena, size, Ranged}
 use Rattle.chart.specs.Refusals.{Outcome, done, refused}
 use Rattle.game.specs.Reading.{owner-of, colour-of, degree-of, target-of, cost-of}
+use Rattle.game.specs.Held.{Held}
 use Rattle.game.specs.Waiting.{waiting}
 use Rattle.game.specs.Worked.{ours, to, chart, empty, answered, waiting-free, waiting-dear, asked-again, put-off, put-off-dear, dear-answer}
 use Rattle.promise.specs.Tables.{Tables, empty-entry}
 use Rattle.promise.specs.Rules.{Checked}
+use Rattle.promise.specs.Promise.{ClaimAccepted}
+use Rattle.promise.proofs.Promised.{marks-the-held}
 use Rattle.promise.proofs.Answering.{answer, answer-checked}
 
 -- a claim, room for working memory, and the answer expected
@@ -232,3 +235,44 @@ tall-cases =
 pub tall-holds : All (Holds (record { height = 30; vertices = [] })) tall-cases
 unfolding owner-of colour-of degree-of target-of cost-of waiting
 tall-holds = all-hold (record { height = 30; vertices = [] }) (omega arith) tall-cases (refl, tt)
+
+-- A chart is settled by marks and a bound: a claim with those marks and that bound is accepted, and the vertices marked are the held
+-- ones.
+pub record Settled (a : Arena) (marks : List ℕ) (bound : ℕ) : Type 0 where
+  pub plan : List ℕ
+  pub counterplay : List ℕ
+  pub accepted : ClaimAccepted a (record { marks = marks; plan = plan; counterplay = counterplay }) bound
+  pub held : (v : ℕ) → v < size a → getD marks v 0 ≡ 1 → Held a v
+  pub lost : (v : ℕ) → v < size a → ¬ (getD marks v 0 ≡ 1) → ¬ Held a v
+
+settled : (a : Arena) → Ranged a → (marks plan counterplay : List ℕ) (bound : ℕ) →
+    ClaimAccepted a (record { marks = marks; plan = plan; counterplay = counterplay }) bound → Settled a marks bound
+settled a r marks plan counterplay bound c =
+    let d = marks-the-held a r (record { marks = marks; plan = plan; counterplay = counterplay }) bound c in
+    record { plan = plan; counterplay = counterplay; accepted = c; held = λ v h e. d v h .0 (h, e); lost = λ v h n k. n (d v h .1 k .1) }
+
+-- each worked chart
+pub empty-settled : Settled empty [] 0
+empty-settled = settled empty (omega arith) [] [] [] 0 (0, (0, 0), empty-holds .0)
+
+pub answered-settled : Settled answered (1 ∷ 1 ∷ []) 3
+answered-settled = settled answered (omega arith) (1 ∷ 1 ∷ []) (0 ∷ 0 ∷ []) (blanks 10) 3 (240, (2, 3), answered-holds .0)
+
+pub waiting-free-settled : Settled waiting-free (1 ∷ 1 ∷ []) 1
+waiting-free-settled = settled waiting-free (omega arith) (1 ∷ 1 ∷ []) (0 ∷ 0 ∷ []) (blanks 10) 1 (240, (2, 1), waiting-free-holds .0)
+
+pub waiting-dear-settled : Settled waiting-dear (0 ∷ 1 ∷ []) 0
+waiting-dear-settled = settled waiting-dear (omega arith) (0 ∷ 1 ∷ []) (none ∷ 0 ∷ []) (blanks 10) 0 (240, (1, 0), waiting-dear-holds .0)
+
+pub asked-again-settled : Settled asked-again (0 ∷ 0 ∷ []) 0
+asked-again-settled = settled asked-again (omega arith) (0 ∷ 0 ∷ []) (none ∷ none ∷ []) (set (blanks 10) 1 0) 0 (240, (0, 0), asked-again-holds .0)
+
+pub put-off-settled : Settled put-off (1 ∷ 1 ∷ 1 ∷ []) 3
+put-off-settled = settled put-off (omega arith) (1 ∷ 1 ∷ 1 ∷ []) (0 ∷ none ∷ 0 ∷ []) (blanks 15) 3 (360, (3, 3), put-off-holds .0)
+
+pub put-off-dear-settled : Settled put-off-dear (0 ∷ 0 ∷ 0 ∷ []) 0
+put-off-dear-settled =
+    settled put-off-dear (omega arith) (0 ∷ 0 ∷ 0 ∷ []) (none ∷ none ∷ none ∷ []) (set (set (blanks 15) 5 1) 6 0) 0 (360, (0, 0), put-off-dear-holds .0)
+
+pub dear-answer-settled : Settled dear-answer (1 ∷ 1 ∷ 1 ∷ []) 7
+dear-answer-settled = settled dear-answer (omega arith) (1 ∷ 1 ∷ 1 ∷ []) (none ∷ 0 ∷ 0 ∷ []) (blanks 15) 7 (360, (3, 7), dear-answer-holds .0)

@@ -1,5 +1,6 @@
 pub mod OneAnswer
 pub mod Accepting
+pub mod OtherBounds
 pub mod Sheets
 pub mod Promised
 pub mod Searching
