@@ -1,12 +1,12 @@
 -- The bound has no part in any cause but its own, and no bound but one is accepted.
-use mathlib.Core.Path.{_≡_, refl, sym}
-use Prim.Native.Nat.{ℕ, _≤_, _<_}
+use mathlib.Core.Path.{_≡_, refl}
+use Prim.Native.Nat.{ℕ, _<_}
 use native.Mathlib.Omega.{arith}
 use native.Mathlib.Nat.{le-of-eq}
 use Rattle.chart.specs.Arena.{Arena, Ranged}
 use Rattle.chart.specs.Refusals.{refused}
 use Rattle.promise.specs.Tables.{Tables}
-use Rattle.promise.specs.Rules.{Cause, dead-end, too-large, short-table, short-memory, wrong-mark, wrong-plan-entry, wrong-counter-entry, leaves-marks, odd-loop, costly-loop, wrong-bound, no-counter-move, even-loop, number, Applies, Refused, Accepted, Checked}
+use Rattle.promise.specs.Rules.{Cause, dead-end, too-large, short-table, short-memory, wrong-mark, wrong-plan-entry, wrong-counter-entry, leaves-marks, odd-loop, costly-loop, wrong-bound, no-counter-move, even-loop, number, Applies, Accepted, Checked}
 use Rattle.promise.proofs.Accepting.{plan-safe, bound-is, one-greatest}
 
 module _ (a : Arena) (t : Tables) (room : ℕ) where
@@ -30,20 +30,26 @@ module _ (a : Arena) (t : Tables) (room : ℕ) where
   pub any-bound : (b d n p : ℕ) → n < 18 → Checked a t b room (refused n p) → Checked a t d room (refused n p)
   any-bound b d n p h x =
       let c = x .0 in
-      let e = x .1 in
-      (c, e, record {
-        applies = same-applies b d c p (λ q. absurd (omega arith)) (x .2 .applies);
-        lowest = λ q y. x .2 .lowest q (same-applies d b c q (λ k. absurd (omega arith)) y);
-        first = λ k l q y. x .2 .first k l q (same-applies d b k q (λ z. absurd (omega arith)) y);
-      })
+      let e = x .1 in (
+        c,
+        e,
+        record {
+          applies = same-applies b d c p (λ q. absurd (omega arith)) (x .2 .applies);
+          lowest = λ q y. x .2 .lowest q (same-applies d b c q (λ k. absurd (omega arith)) y);
+          first = λ k l q y. x .2 .first k l q (same-applies d b k q (λ z. absurd (omega arith)) y);
+        },
+      )
 
   -- with any other bound an accepted claim is refused, and told the right one
   pub other-bound : Ranged a → (bound d : ℕ) → Accepted a t bound room → ¬ (d ≡ bound) → Checked a t d room (refused 18 bound)
   other-bound r bound d ok n =
       let safe = plan-safe a r t bound room (ok wrong-plan-entry) (ok leaves-marks) (ok odd-loop) (ok costly-loop) in
-      let g = bound-is a r t bound room safe (ok wrong-bound) in
-      (wrong-bound, refl, record {
-        applies = (g, n);
-        lowest = λ q y. le-of-eq (one-greatest a t bound q g (y .0));
-        first = λ k l q y. ok k q (same-applies d bound k q (λ z. absurd (omega arith)) y);
-      })
+      let g = bound-is a r t bound room safe (ok wrong-bound) in (
+        wrong-bound,
+        refl,
+        record {
+          applies = (g, n);
+          lowest = λ q y. le-of-eq (one-greatest a t bound q g (y .0));
+          first = λ k l q y. ok k q (same-applies d bound k q (λ z. absurd (omega arith)) y);
+        },
+      )

@@ -1,18 +1,18 @@
 -- Which numbers a finite graph leads to, worked out: a search that can be computed, and that tells walks.
 use mathlib.Core.Path.{_≡_, refl, sym, subst, ap, _∙_}
-use mathlib.Core.Bool.{Bool, true, false, cond, not, _&&_, _||_}
+use mathlib.Core.Bool.{Bool, true, false, cond, not, _||_}
 use mathlib.Core.Logic.{_⊎_, inl, inr}
 use mathlib.Core.List.{List, [], _∷_, _++_, map}
 use Prim.Native.Nat.{ℕ, zero, suc, _≤_, _<_}
 use native.Mathlib.Omega.{arith}
 use native.Mathlib.Decide.{ℕ-discrete}
-use lib.Dec.{eqb, ltb}
-use lib.ListN.{length, getD}
+use lib.Dec.{eqb}
+use lib.ListN.{getD}
 use Rattle.std.specs.Iters.{counting}
 use Rattle.std.specs.Orderings.{Decides}
 use Rattle.std.proofs.shelf.Lists.{getD-past}
 use Rattle.std.proofs.shelf.Counted.{length-map-counting, getD-map-counting}
-use Rattle.std.proofs.shelf.Tests.{cases-bool, cases-lt, cases-eq, both-ways, or-cases, or-left, or-right, or-parts, not-true, not-false, eqb-true, eq-eqb, lt-ltb}
+use Rattle.std.proofs.shelf.Tests.{cases-bool, cases-lt, cases-eq, both-ways, or-cases, or-left, or-right, or-parts, not-true, not-false, eqb-true, eq-eqb}
 use Rattle.std.proofs.shelf.Ways.{decides-like, decides-or, decides-eqb}
 use Rattle.walks.specs.Games.{Walk, last, step, Reaches}
 use Rattle.walks.specs.Tables.{In, members}
@@ -63,15 +63,16 @@ passing test (suc n) = keep (test n) n (passing test n)
 pub mem-passing : (test : ℕ → Bool) (n x : ℕ) → Decides (mem x (passing test n)) ((x < n) × (test x ≡ true))
 mem-passing test zero x = ((λ e. absurd (both-ways false refl e)), λ p. absurd (omega (arith, p .0)))
 mem-passing test (suc n) x =
-    let r = mem-passing test n x in
-    ((λ e. elim (mem-keep (test n) x n (passing test n) e) [
-      | inl f ↦ ((let g = f .1 in omega arith), ap test (f .1) ∙ f .0)
-      | inr f ↦ (let g = r .0 f in ((let h = g .0 in omega arith), g .1))
-    ]),
-    λ p. elim (cases-eq x n) [
-      | inl e ↦ keep-here (test n) x n (passing test n) (ap test (sym e) ∙ p .1) e
-      | inr d ↦ keep-later (test n) x n (passing test n) (r .1 ((let h = p .0 in omega arith), p .1))
-    ])
+    let r = mem-passing test n x in (
+      (λ e. elim (mem-keep (test n) x n (passing test n) e) [
+        | inl f ↦ ((let g = f .1 in omega arith), ap test (f .1) ∙ f .0)
+        | inr f ↦ (let g = r .0 f in ((let h = g .0 in omega arith), g .1))
+      ]),
+      λ p. elim (cases-eq x n) [
+        | inl e ↦ keep-here (test n) x n (passing test n) (ap test (sym e) ∙ p .1) e
+        | inr d ↦ keep-later (test n) x n (passing test n) (r .1 ((let h = p .0 in omega arith), p .1))
+      ],
+    )
 
 -- y before rest, if it is neither there nor seen
 abbrev unless-seen : List ℕ → ℕ → List ℕ → List ℕ
@@ -223,10 +224,11 @@ module _ (rows : List (List ℕ)) (n : ℕ) (low : (p q : ℕ) → Edge rows p q
   closed-on xs c (step e w) m = closed-on xs c w (c _ _ m e)
 
   pub reach-decides : (seeds : List ℕ) (q : ℕ) → Decides (mem q (reach rows n seeds)) (From seeds q)
-  reach-decides seeds q =
-      (spread-has (From seeds) (λ x y r e. (r .0, r .1, reach-join (r .2) (inr (last e)))) n [] (fresh [] seeds)
-      (λ x m. (x, elim (mem-either x (fresh [] seeds) [] m) [ inl d ↦ fresh-from [] seeds x d .0 | inr d ↦ absurd (both-ways false refl d) ], inl refl)) q,
-      λ r. whole (r .0) (spread-keeps n [] (fresh [] seeds) (r .0) (fresh-all [] seeds (r .0) (r .1))) (r .2))
+  reach-decides seeds q = (
+    spread-has (From seeds) (λ x y r e. (r .0, r .1, reach-join (r .2) (inr (last e)))) n [] (fresh [] seeds)
+        (λ x m. (x, elim (mem-either x (fresh [] seeds) [] m) [ inl d ↦ fresh-from [] seeds x d .0 | inr d ↦ absurd (both-ways false refl d) ], inl refl)) q,
+    λ r. whole (r .0) (spread-keeps n [] (fresh [] seeds) (r .0) (fresh-all [] seeds (r .0) (r .1))) (r .2),
+  )
     where
       whole : (x : ℕ) → mem x (reach rows n seeds) ≡ true → Reaches (Edge rows) x q → mem q (reach rows n seeds) ≡ true
       whole x m (inl e) = subst (λ z. mem z (reach rows n seeds) ≡ true) e m
@@ -251,12 +253,13 @@ module _ (n : ℕ) (test : ℕ → ℕ → Bool) (E : ℕ → ℕ → Type 0) (t
   row-past p h = getD-past (rows-of n test) p [] (let e = length-map-counting (λ p. passing (test p) n) 0 n in omega arith)
 
   pub edge-decides : (p q : ℕ) → Decides (mem q (getD (rows-of n test) p [])) (E p q)
-  edge-decides p q =
-      ((λ e. elim (cases-lt p n) [
-        | inl h ↦ tells p q .0 (mem-passing (test p) n q .0 (ap (mem q) (sym (row-is p h)) ∙ e) .1)
-        | inr h ↦ absurd (both-ways _ (ap (mem q) (row-past p h)) e)
-      ]),
-      λ e. ap (mem q) (row-is p (low p q e .0)) ∙ mem-passing (test p) n q .1 (low p q e .1, tells p q .1 e))
+  edge-decides p q = (
+    (λ e. elim (cases-lt p n) [
+      | inl h ↦ tells p q .0 (mem-passing (test p) n q .0 (ap (mem q) (sym (row-is p h)) ∙ e) .1)
+      | inr h ↦ absurd (both-ways _ (ap (mem q) (row-past p h)) e)
+    ]),
+    λ e. ap (mem q) (row-is p (low p q e .0)) ∙ mem-passing (test p) n q .1 (low p q e .1, tells p q .1 e),
+  )
 
   edge-low : (p q : ℕ) → Edge (rows-of n test) p q → q < n
   edge-low p q e = low p q (edge-decides p q .0 e) .1

@@ -1,26 +1,24 @@
 -- Each cause of refusal as a test that can be computed.
 use mathlib.Core.Path.{_≡_, refl, sym, subst, ap, _∙_}
 use mathlib.Core.Bool.{Bool, true, false, cond, not, _&&_, _||_}
-use mathlib.Core.Logic.{_⊎_, inl, inr}
+use mathlib.Core.Logic.{inl, inr}
 use mathlib.Core.List.{List, [], _∷_, map}
-use Prim.Native.Nat.{ℕ, zero, suc, _*_, _/_, _%_, _≤_, _<_}
-use native.Mathlib.Omega.{arith}
+use Prim.Native.Nat.{ℕ, zero, suc, _/_, _%_, _≤_, _<_}
 use lib.Dec.{eqb, leb, ltb}
 use lib.ListN.{length, getD}
 use Rattle.std.specs.Orderings.{Decides}
-use Rattle.std.proofs.shelf.Tests.{cases-bool, both-ways, leb-true, le-leb, eqb-true, eq-eqb, or-cases, or-left, or-right, not-true, not-from-false, cond-true, cond-false}
+use Rattle.std.proofs.shelf.Tests.{both-ways, leb-true, le-leb, eqb-true, eq-eqb, or-cases, or-left, or-right, not-true, not-from-false}
 use Rattle.std.proofs.shelf.Ways.{decides-like, decides-eqb, decides-ltb, decides-not, decides-and, decides-or, decides-below-or}
 use Rattle.chart.specs.Arena.{Arena, size, Ranged}
-use Rattle.walks.specs.Games.{Game, Step, Walk, last, step, Inside, Loop, Reaches}
-use Rattle.walks.proofs.Walks.{walk-map, reach-join}
+use Rattle.walks.specs.Games.{Step, Walk, last, step, Inside, Loop, Reaches}
+use Rattle.walks.proofs.Walks.{reach-join}
 use Rattle.game.specs.Reading.{owner-of, colour-of, degree-of, target-of, cost-of, game-of}
 use Rattle.game.specs.Voyages.{answers}
-use Rattle.game.specs.Waiting.{stage-in, positions, may-be-laid, waiting, first}
-use Rattle.game.specs.Claims.{PlanStep, WaitingStep, CostlyLoop, by-entry, CounterStep, Reached, begun, led}
-use Rattle.game.specs.Bounds.{GreatestWait, allowed, greatest-wait}
+use Rattle.game.specs.Waiting.{stage-in, waiting, first}
+use Rattle.game.specs.Claims.{PlanStep, WaitingStep, CostlyLoop, by-entry, CounterStep, begun, led}
 use Rattle.game.proofs.Readings.{moves-there, target-low}
-use Rattle.game.proofs.Positions.{waiting-size, waiting-ranged}
-use Rattle.promise.specs.Tables.{Tables, empty-entry, entries, entry-vertex, mark-of, plan-of, counter-of, Marked, GoodPlanEntry, GoodCounterEntry, LongEnough}
+use Rattle.game.proofs.Positions.{waiting-ranged}
+use Rattle.promise.specs.Tables.{Tables, empty-entry, entries, entry-vertex, plan-of, counter-of, Marked, GoodPlanEntry, GoodCounterEntry, LongEnough}
 use Rattle.promise.specs.Rules.{Met}
 use Rattle.promise.proofs.Accepting.{marked, marked-test, marked-from}
 use Rattle.promise.proofs.Searching.{mem, passing, mem-passing, reach, rows-of, edge-decides, walks-decide, reaches-decide, seeds-decide}
@@ -72,7 +70,7 @@ pub plan-entry-decides : (a : Arena) (t : Tables) (v : ℕ) → Decides (plan-en
 plan-entry-decides a t v = decides-choice (marked a t v && eqb (owner-of a v) 0) _ _
     (λ e. let both = ours .0 e in decides-like _ (λ h. record { move = λ m o. h; empty = λ n. absurd (n both) }) (λ g. g .move (both .0) (both .1)) (decides-ltb _ _))
     (λ e. let none : ¬ (Marked a t v × (owner-of a v ≡ 0)) = (λ m. both-ways _ e (ours .1 m)) in
-        decides-like _ (λ h. record { move = λ m o. absurd (none (m, o)); empty = λ n. h }) (λ g. g .empty none) (decides-eqb _ _))
+    decides-like _ (λ h. record { move = λ m o. absurd (none (m, o)); empty = λ n. h }) (λ g. g .empty none) (decides-eqb _ _))
   where
     ours : Decides (marked a t v && eqb (owner-of a v) 0) (Marked a t v × (owner-of a v ≡ 0))
     ours = decides-and _ _ (decides-marked a t v) (decides-eqb (owner-of a v) 0)
@@ -84,9 +82,9 @@ counter-entry-test a t e =
 pub counter-entry-decides : (a : Arena) (t : Tables) (e : ℕ) → Decides (counter-entry-test a t e) (GoodCounterEntry a t e)
 counter-entry-decides a t e = decides-choice (eqb (owner-of a (entry-vertex a e)) 1) _ _
     (λ b. let o = eqb-true (owner-of a (entry-vertex a e)) 1 b in
-        decides-like _ (λ h. record { harbours = λ p. h; ours = λ n. absurd (n o) }) (λ g. g .harbours o) (decides-or _ _ (decides-ltb _ _) (decides-eqb _ _)))
+    decides-like _ (λ h. record { harbours = λ p. h; ours = λ n. absurd (n o) }) (λ g. g .harbours o) (decides-or _ _ (decides-ltb _ _) (decides-eqb _ _)))
     (λ b. let n : ¬ (owner-of a (entry-vertex a e) ≡ 1) = (λ o. both-ways _ b (eq-eqb _ _ o)) in
-        decides-like _ (λ h. record { harbours = λ p. absurd (n p); ours = λ k. h }) (λ g. g .ours n) (decides-eqb _ _))
+    decides-like _ (λ h. record { harbours = λ p. absurd (n p); ours = λ k. h }) (λ g. g .ours n) (decides-eqb _ _))
 
 -- steps of a game on an arena, where player i goes by s
 abbrev goes-by : Arena → ℕ → (ℕ → ℕ) → ℕ → ℕ → Bool
@@ -204,9 +202,22 @@ module _ (a : Arena) (r : Ranged a) (t : Tables) where
 
   costly-back : (u : ℕ) → CostlyLoop a (plan-of t) u → (x : ℕ) × (x < size a) × CostlyFrom u x
   costly-back u c =
-      let e = c .move .0 in
-      (c .from, moves-there a (c .from) (e .0) (e .1), (c .met, (e .0, e .1, (e .2, ap (answers a (colour-of a u)) (e .3) ∙ c .move .1,
-      (c .costs, subst (λ y. Reaches (WaitingStep a (plan-of t) (colour-of a u)) y (c .from)) (sym (e .3)) (c .back))))))
+      let e = c .move .0 in (
+        c .from,
+        moves-there a (c .from) (e .0) (e .1),
+        (
+          c .met,
+          (
+            e .0,
+            e .1,
+            (
+              e .2,
+              ap (answers a (colour-of a u)) (e .3) ∙ c .move .1,
+              (c .costs, subst (λ y. Reaches (WaitingStep a (plan-of t) (colour-of a u)) y (c .from)) (sym (e .3)) (c .back)),
+            ),
+          ),
+        ),
+      )
 
   pub costly-loop-decides : (v : ℕ) → Decides (odd-test a t (costly-test a t) v) (Marked a t v × (colour-of a v % 2 ≡ 1) × CostlyLoop a (plan-of t) v)
   costly-loop-decides v = odd-decides a t (costly-test a t) (CostlyLoop a (plan-of t)) v
@@ -217,15 +228,16 @@ module _ (a : Arena) (r : Ranged a) (t : Tables) where
 mem-map : (f : ℕ → ℕ) (xs : List ℕ) (x : ℕ) → Decides (mem x (map f xs)) ((v : ℕ) × (mem v xs ≡ true) × (x ≡ f v))
 mem-map f [] x = ((λ e. absurd (both-ways false refl e)), λ p. absurd (both-ways false refl (p .1)))
 mem-map f (y ∷ ys) x =
-    let r = mem-map f ys x in
-    ((λ e. elim (or-cases (eqb x (f y)) (mem x (map f ys)) e) [
-      | inl d ↦ (y, or-left _ _ (eq-eqb y y refl), eqb-true x (f y) d)
-      | inr d ↦ (let k = r .0 d in (k .0, or-right (eqb (k .0) y) _ (k .1), k .2))
-    ]),
-    λ p. elim (or-cases (eqb (p .0) y) (mem (p .0) ys) (p .1)) [
-      | inl d ↦ or-left _ _ (eq-eqb x (f y) (p .2 ∙ ap f (eqb-true (p .0) y d)))
-      | inr d ↦ or-right (eqb x (f y)) _ (r .1 (p .0, d, p .2))
-    ])
+    let r = mem-map f ys x in (
+      (λ e. elim (or-cases (eqb x (f y)) (mem x (map f ys)) e) [
+        | inl d ↦ (y, or-left _ _ (eq-eqb y y refl), eqb-true x (f y) d)
+        | inr d ↦ (let k = r .0 d in (k .0, or-right (eqb (k .0) y) _ (k .1), k .2))
+      ]),
+      λ p. elim (or-cases (eqb (p .0) y) (mem (p .0) ys) (p .1)) [
+        | inl d ↦ or-left _ _ (eq-eqb x (f y) (p .2 ∙ ap f (eqb-true (p .0) y d)))
+        | inr d ↦ or-right (eqb x (f y)) _ (r .1 (p .0, d, p .2))
+      ],
+    )
 
 -- the counterplay, on the waiting chart w over a; rows are those of its steps, and mets the positions reached
 abbrev pub counter-test : Arena → Tables → ℕ → ℕ → Bool
