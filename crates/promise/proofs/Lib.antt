@@ -3,6 +3,7 @@ pub mod Accepting
 pub mod OtherBounds
 pub mod Sheets
 pub mod Promised
+pub mod Given
 pub mod Searching
 pub mod Tests
 pub mod Answering
