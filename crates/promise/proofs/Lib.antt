@@ -4,6 +4,7 @@ pub mod OtherBounds
 pub mod Sheets
 pub mod Promised
 pub mod Given
+pub mod Kept
 pub mod Searching
 pub mod Tests
 pub mod Answering
