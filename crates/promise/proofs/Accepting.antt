@@ -1,26 +1,25 @@
 -- What an accepted claim comes to: its plan is safe on the marks, its bound the greatest wait, its counterplay safe against them.
-use mathlib.Core.Path.{_≡_, refl, sym, subst, ap, _∙_}
-use mathlib.Core.Bool.{Bool, true, false, cond, _&&_}
-use mathlib.Core.Logic.{_⊎_, inl, inr}
-use Prim.Native.Nat.{ℕ, suc, _*_, _/_, _%_, _≤_, _<_}
+use mathlib.Core.Path.{_≡_, refl, sym, subst, _∙_}
+use mathlib.Core.Bool.{Bool, true, _&&_}
+use mathlib.Core.Logic.{inl, inr}
+use Prim.Native.Nat.{ℕ, suc, _/_, _<_}
 use native.Mathlib.Omega.{arith}
 use native.Mathlib.Decide.{ℕ-discrete, decLe}
-use lib.Dec.{eqb, leb, ltb}
+use lib.Dec.{eqb, ltb}
 use Rattle.chart.specs.Arena.{Arena, size, Ranged}
-use Rattle.walks.specs.Games.{Inside, Loop}
 use Rattle.walks.proofs.Walks.{walk-map}
-use Rattle.game.specs.Reading.{owner-of, colour-of, degree-of}
+use Rattle.walks.proofs.Attractors.{find}
+use Rattle.game.specs.Reading.{owner-of, degree-of}
 use Rattle.game.specs.Waiting.{stage-in, vertex-in, positions, may-be-laid, waiting}
-use Rattle.game.specs.Claims.{PlanStep, SafePlan, by-entry, Reached, begun, led, SafeCounter}
+use Rattle.game.specs.Claims.{SafePlan, by-entry, begun, led, SafeCounter}
 use Rattle.game.specs.Bounds.{GreatestWait, greatest-wait}
-use Rattle.game.proofs.Readings.{owner-other}
-use Rattle.game.proofs.Positions.{vertex-in-low, owner-there, degree-on, degree-off, waiting-ranged}
+use Rattle.game.proofs.Positions.{owner-there, degree-on, degree-off}
 use Rattle.theory.specs.Levels.{Spot}
 use Rattle.theory.proofs.Bounds.{greatest-wait-is}
 use Rattle.theory.proofs.Deciding.{spot-leads, first-low}
 use Rattle.std.proofs.shelf.Tests.{and-from, and-parts, lt-ltb, ltb-true, eq-eqb, ne-eqb, eqb-true, le-leb, cond-true, cond-false}
-use Rattle.promise.specs.Tables.{Tables, empty-entry, entries, entry-vertex, mark-of, plan-of, counter-of, Marked, GoodPlanEntry, GoodCounterEntry}
-use Rattle.promise.specs.Rules.{Cause, dead-end, too-large, short-table, short-memory, wrong-mark, wrong-plan-entry, wrong-counter-entry, leaves-marks, odd-loop, costly-loop, wrong-bound, no-counter-move, even-loop, Met, Applies, Accepted}
+use Rattle.promise.specs.Tables.{Tables, entries, mark-of, plan-of, counter-of, Marked}
+use Rattle.promise.specs.Rules.{Cause, dead-end, too-large, wrong-plan-entry, wrong-counter-entry, leaves-marks, odd-loop, costly-loop, wrong-bound, no-counter-move, even-loop, Met, Applies}
 
 -- whether a vertex is marked can be told
 pub dec-marked : (a : Arena) (t : Tables) (v : ℕ) → Dec (Marked a t v)
@@ -58,6 +57,20 @@ module _ (a : Arena) (s : ℕ → ℕ) (M N : ℕ → Type 0) (f : (v : ℕ) →
         met = λ v n. let x = k .met v (g v n) in (x .0, x .1, f _ (x .2), x .3, x .4);
         none = λ n. k .none (λ v m. n v (f v m));
       }
+
+-- there is one worst wait
+pub one-greatest : (a : Arena) (t : Tables) (x y : ℕ) → GreatestWait a (Marked a t) (plan-of t) x → GreatestWait a (Marked a t) (plan-of t) y → x ≡ y
+one-greatest a t x y g h = elim (find (Marked a t) (dec-marked a t) (size a)) [
+  | inl f ↦
+      let p = g .met (f .0) (f .2) in
+      let q = h .met (f .0) (f .2) in
+      let i = h .over (p .0) (p .1) (p .2) (p .3) in
+      let j = g .over (q .0) (q .1) (q .2) (q .3) in
+      let d = p .4 in
+      let e = q .4 in
+      omega arith
+  | inr none ↦ g .none (λ v m. none v (m .0) m) ∙ sym (h .none (λ v m. none v (m .0) m))
+]
 
 -- no place at which the cause applies; the bound and the room are those of the claim
 module _ (a : Arena) (r : Ranged a) (t : Tables) (bound room : ℕ) where

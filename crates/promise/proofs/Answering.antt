@@ -1,12 +1,12 @@
 -- On every chart that keeps to the ranges check has an answer, and it can be worked out.
 use mathlib.Core.Path.{_≡_, refl, sym, subst, ap, _∙_}
-use mathlib.Core.Bool.{Bool, true, false, cond, not, _&&_, _||_}
-use mathlib.Core.Logic.{_⊎_, inl, inr}
+use mathlib.Core.Bool.{Bool, true, false, cond, not, _||_}
+use mathlib.Core.Logic.{inl, inr}
 use mathlib.Core.List.{List}
-use Prim.Native.Nat.{ℕ, zero, suc, _*_, _/_, _%_, _≤_, _<_}
+use Prim.Native.Nat.{ℕ, zero, suc, _*_, _≤_, _<_}
 use native.Mathlib.Omega.{arith}
 use native.Mathlib.Decide.{ℕ-discrete, decLe}
-use lib.Dec.{eqb, leb, ltb}
+use lib.Dec.{eqb, ltb}
 use Rattle.std.specs.declared.option.Option.{Option}
 use Rattle.std.specs.declared.option.Option.the-variants.{Some, None}
 use Rattle.std.specs.Orderings.{Decides}
@@ -14,7 +14,6 @@ use Rattle.std.proofs.shelf.Tests.{cases-bool, cases-order, both-ways, eqb-true
 use Rattle.std.proofs.shelf.Ways.{decides-like, decides-eqb, decides-ltb, decides-not, decides-or}
 use Rattle.chart.specs.Arena.{Arena, size, Ranged}
 use Rattle.chart.specs.Refusals.{Outcome, done, refused}
-use Rattle.walks.proofs.Attractors.{find}
 use Rattle.game.specs.Reading.{degree-of}
 use Rattle.game.specs.Waiting.{positions, may-be-laid, waiting}
 use Rattle.game.specs.Claims.{SafePlan}
@@ -23,7 +22,7 @@ use Rattle.game.proofs.Positions.{waiting-size}
 use Rattle.promise.specs.Tables.{Tables, entries, mark-of, plan-of, Marked, marks-counted}
 use Rattle.promise.specs.Rules.{Cause, dead-end, too-large, short-table, short-memory, wrong-mark, wrong-plan-entry, wrong-counter-entry, leaves-marks, odd-loop, costly-loop, wrong-bound, no-counter-move, even-loop, number, Met, Applies, Checked}
 use Rattle.promise.proofs.OneAnswer.{same-cause}
-use Rattle.promise.proofs.Accepting.{dec-marked, marked, Nowhere, plan-safe, greatest-is, may-lay, met-low}
+use Rattle.promise.proofs.Accepting.{marked, one-greatest, plan-safe, greatest-is, may-lay, met-low}
 use Rattle.promise.proofs.Tests.{long-test, long-decides, plan-entry-test, plan-entry-decides, counter-entry-test, counter-entry-decides, leaves-test, leaves-decides, odd-loop-test, odd-loop-decides, odd-test, costly-test, costly-loop-decides, counter-rows, mets-by, no-counter-test, no-counter-decides, even-loop-test, even-loop-decides}
 
 abbrev or-else : Option ℕ → Option ℕ → Option ℕ
@@ -181,29 +180,15 @@ module _ (a : Arena) (r : Ranged a) (t : Tables) (bound room : ℕ) where
   finds-costly-loop : Finds (At costly-loop) (lowest (odd-test a t (costly-test a t)) (size a))
   finds-costly-loop = lowest-finds _ _ _ (λ v h. costly-loop-decides a r t v) (λ v x. x .0 .0)
 
-  -- there is one worst wait
-  one-greatest : (x y : ℕ) → GreatestWait a (Marked a t) (plan-of t) x → GreatestWait a (Marked a t) (plan-of t) y → x ≡ y
-  one-greatest x y g h = elim (find (Marked a t) (dec-marked a t) (size a)) [
-    | inl f ↦
-        let p = g .met (f .0) (f .2) in
-        let q = h .met (f .0) (f .2) in
-        let i = h .over (p .0) (p .1) (p .2) (p .3) in
-        let j = g .over (q .0) (q .1) (q .2) (q .3) in
-        let d = p .4 in
-        let e = q .4 in
-        omega arith
-    | inr none ↦ g .none (λ v m. none v (m .0) m) ∙ sym (h .none (λ v m. none v (m .0) m))
-  ]
-
   finds-wrong-bound : SafePlan a (Marked a t) (plan-of t) →
       Finds (At wrong-bound) (cond (eqb bound (greatest-wait a (marked a t) (plan-of t))) None (Some (greatest-wait a (marked a t) (plan-of t))))
   finds-wrong-bound safe = go (greatest-wait a (marked a t) (plan-of t)) (greatest-is a r t bound room safe)
     where
       go : (w : ℕ) → GreatestWait a (Marked a t) (plan-of t) w → Finds (At wrong-bound) (cond (eqb bound w) None (Some w))
       go w g = elim (cases-bool (eqb bound w)) [
-        | inl e ↦ subst (Finds (At wrong-bound)) (sym (cond-true (eqb bound w) None (Some w) e)) (λ q x. x .1 (eqb-true bound w e ∙ one-greatest w q g (x .0)))
+        | inl e ↦ subst (Finds (At wrong-bound)) (sym (cond-true (eqb bound w) None (Some w) e)) (λ q x. x .1 (eqb-true bound w e ∙ one-greatest a t w q g (x .0)))
         | inr e ↦ subst (Finds (At wrong-bound)) (sym (cond-false (eqb bound w) None (Some w) e))
-            ((g, eqb-false bound w e), λ q x. (let k = one-greatest w q g (x .0) in omega arith))
+            ((g, eqb-false bound w e), λ q x. (let k = one-greatest a t w q g (x .0) in omega arith))
       ]
 
   abbrev mets : List ℕ

@@ -1,7 +1,11 @@
 pub mod OneAnswer
 pub mod Accepting
+pub mod OtherBounds
 pub mod Sheets
 pub mod Promised
+pub mod Given
+pub mod Kept
 pub mod Searching
 pub mod Tests
 pub mod Answering
+pub mod Cases

@@ -1,18 +1,18 @@
 -- Which numbers a finite graph leads to, worked out: a search that can be computed, and that tells walks.
 use mathlib.Core.Path.{_≡_, refl, sym, subst, ap, _∙_}
-use mathlib.Core.Bool.{Bool, true, false, cond, not, _&&_, _||_}
+use mathlib.Core.Bool.{Bool, true, false, cond, not, _||_}
 use mathlib.Core.Logic.{_⊎_, inl, inr}
 use mathlib.Core.List.{List, [], _∷_, _++_, map}
 use Prim.Native.Nat.{ℕ, zero, suc, _≤_, _<_}
 use native.Mathlib.Omega.{arith}
 use native.Mathlib.Decide.{ℕ-discrete}
-use lib.Dec.{eqb, ltb}
-use lib.ListN.{length, getD}
+use lib.Dec.{eqb}
+use lib.ListN.{getD}
 use Rattle.std.specs.Iters.{counting}
 use Rattle.std.specs.Orderings.{Decides}
 use Rattle.std.proofs.shelf.Lists.{getD-past}
 use Rattle.std.proofs.shelf.Counted.{length-map-counting, getD-map-counting}
-use Rattle.std.proofs.shelf.Tests.{cases-bool, cases-lt, cases-eq, both-ways, or-cases, or-left, or-right, or-parts, not-true, not-false, eqb-true, eq-eqb, lt-ltb}
+use Rattle.std.proofs.shelf.Tests.{cases-bool, cases-lt, cases-eq, both-ways, or-cases, or-left, or-right, or-parts, not-true, not-false, eqb-true, eq-eqb}
 use Rattle.std.proofs.shelf.Ways.{decides-like, decides-or, decides-eqb}
 use Rattle.walks.specs.Games.{Walk, last, step, Reaches}
 use Rattle.walks.specs.Tables.{In, members}

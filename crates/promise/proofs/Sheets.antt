@@ -1,7 +1,7 @@
 -- The third part of the main promise: a drawn chart is the plain sheet of its calls, and solve writes a claim exactly where it can.
 use mathlib.Core.Path.{_≡_, refl, sym, subst, ap, _∙_}
 use mathlib.Core.Bool.{Bool, true, false, cond, _&&_}
-use mathlib.Core.Logic.{_⊎_, inl, inr, _↔_}
+use mathlib.Core.Logic.{inl, inr, _↔_}
 use mathlib.Core.List.{List, [], _∷_}
 use Prim.Native.Nat.{ℕ, zero, suc, _*_, _≤_, _<_}
 use native.Mathlib.Omega.{arith}
@@ -10,18 +10,18 @@ use lib.Dec.{leb, ltb}
 use lib.ListN.{length, getD}
 use Rattle.std.proofs.shelf.Lists.{length-push}
 use Rattle.std.proofs.shelf.Tests.{cases-lt, lt-ltb, le-ltb, le-leb, lt-leb, ltb-true, and-parts, and-from, and-left, and-right, cond-true, cond-false, cases-bool}
-use Rattle.chart.specs.Arena.{Arena, Vertex, size}
+use Rattle.chart.specs.Arena.{Arena, size}
 use Rattle.chart.specs.Refusals.{Outcome, done, refused}
 use Rattle.game.specs.Reading.{no-vertex, degree-of}
 use Rattle.game.specs.Waiting.{positions}
-use Rattle.drawn.specs.Rules.{blank, place-outcome, placed, join-outcome, joined, strike-outcome, struck, degree-at, move-count, after, with-vertex, with-adjusted, with-move, without-move}
+use Rattle.drawn.specs.Rules.{blank, place-outcome, placed, join-outcome, joined, strike-outcome, struck, degree-at, move-count, after}
 use Rattle.drawn.proofs.Adjusted.{length-adjusted}
 use Rattle.drawn.proofs.Outcomes.{place-full, place-done, join-from, join-to, join-dear, join-full, join-done, strike-absent, strike-none, strike-done}
 use Rattle.promise.specs.Tables.{Tables, entries, LongEnough}
 use Rattle.promise.specs.Rules.{Cause, dead-end, too-large, short-table, short-memory, wrong-mark, wrong-plan-entry, wrong-counter-entry, leaves-marks, odd-loop, costly-loop, wrong-bound, no-counter-move, even-loop, number, Applies}
 use Rattle.promise.specs.Solving.{Solved}
 use Rattle.promise.specs.Sheets.{Call, place, join, strike, solve, check, after-call, after-calls, Sheet, takes, drawn-on, sheet-after, plain-sheet}
-use Rattle.promise.specs.Promise.{EveryVertexMoves, Suffices, WritesAClaim, SheetSolved, DrawnChartsAreSolved}
+use Rattle.promise.specs.Promise.{EveryVertexMoves, Suffices, WritesAClaim, DrawnChartsAreSolved}
 
 -- a sheet as a chart
 abbrev charted : Sheet → Arena

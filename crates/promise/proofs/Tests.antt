@@ -1,26 +1,24 @@
 -- Each cause of refusal as a test that can be computed.
 use mathlib.Core.Path.{_≡_, refl, sym, subst, ap, _∙_}
 use mathlib.Core.Bool.{Bool, true, false, cond, not, _&&_, _||_}
-use mathlib.Core.Logic.{_⊎_, inl, inr}
+use mathlib.Core.Logic.{inl, inr}
 use mathlib.Core.List.{List, [], _∷_, map}
-use Prim.Native.Nat.{ℕ, zero, suc, _*_, _/_, _%_, _≤_, _<_}
-use native.Mathlib.Omega.{arith}
+use Prim.Native.Nat.{ℕ, zero, suc, _/_, _%_, _≤_, _<_}
 use lib.Dec.{eqb, leb, ltb}
 use lib.ListN.{length, getD}
 use Rattle.std.specs.Orderings.{Decides}
-use Rattle.std.proofs.shelf.Tests.{cases-bool, both-ways, leb-true, le-leb, eqb-true, eq-eqb, or-cases, or-left, or-right, not-true, not-from-false, cond-true, cond-false}
+use Rattle.std.proofs.shelf.Tests.{both-ways, leb-true, le-leb, eqb-true, eq-eqb, or-cases, or-left, or-right, not-true, not-from-false}
 use Rattle.std.proofs.shelf.Ways.{decides-like, decides-eqb, decides-ltb, decides-not, decides-and, decides-or, decides-below-or}
 use Rattle.chart.specs.Arena.{Arena, size, Ranged}
-use Rattle.walks.specs.Games.{Game, Step, Walk, last, step, Inside, Loop, Reaches}
-use Rattle.walks.proofs.Walks.{walk-map, reach-join}
+use Rattle.walks.specs.Games.{Step, Walk, last, step, Inside, Loop, Reaches}
+use Rattle.walks.proofs.Walks.{reach-join}
 use Rattle.game.specs.Reading.{owner-of, colour-of, degree-of, target-of, cost-of, game-of}
 use Rattle.game.specs.Voyages.{answers}
-use Rattle.game.specs.Waiting.{stage-in, positions, may-be-laid, waiting, first}
-use Rattle.game.specs.Claims.{PlanStep, WaitingStep, CostlyLoop, by-entry, CounterStep, Reached, begun, led}
-use Rattle.game.specs.Bounds.{GreatestWait, allowed, greatest-wait}
+use Rattle.game.specs.Waiting.{stage-in, waiting, first}
+use Rattle.game.specs.Claims.{PlanStep, WaitingStep, CostlyLoop, by-entry, CounterStep, begun, led}
 use Rattle.game.proofs.Readings.{moves-there, target-low}
-use Rattle.game.proofs.Positions.{waiting-size, waiting-ranged}
-use Rattle.promise.specs.Tables.{Tables, empty-entry, entries, entry-vertex, mark-of, plan-of, counter-of, Marked, GoodPlanEntry, GoodCounterEntry, LongEnough}
+use Rattle.game.proofs.Positions.{waiting-ranged}
+use Rattle.promise.specs.Tables.{Tables, empty-entry, entries, entry-vertex, plan-of, counter-of, Marked, GoodPlanEntry, GoodCounterEntry, LongEnough}
 use Rattle.promise.specs.Rules.{Met}
 use Rattle.promise.proofs.Accepting.{marked, marked-test, marked-from}
 use Rattle.promise.proofs.Searching.{mem, passing, mem-passing, reach, rows-of, edge-decides, walks-decide, reaches-decide, seeds-decide}

@@ -5,7 +5,6 @@ use Prim.Native.Nat.{ℕ}
 use lib.Dec.{leb, ltb}
 use lib.ListN.{length, getD}
 use Rattle.std.specs.shelf.Lists.{removed}
-use Rattle.chart.specs.declared.parts.Move.{Move}
 use Rattle.chart.specs.Arena.{Arena, Vertex}
 use Rattle.game.specs.Reading.{no-vertex}
 use Rattle.drawn.specs.Rules.{placed, joined, struck, adjusted, move-count}

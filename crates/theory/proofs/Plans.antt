@@ -35,7 +35,7 @@ tint-toll h k l e = grind arith
 
 module _ (a : Arena) (r : Ranged a) (ok : may-be-laid a ≡ true) (σ : ℕ → ℕ) (W : ℕ → Type 0)
     (k : Keeps (game-of (waiting a)) 0 (Spot a) σ W) (Marked : ℕ → Type 0) (best : ℕ → ℕ) (b : Best a W Marked best) where
-  pub plan : ℕ → ℕ
+  unfoldable pub plan : ℕ → ℕ
   plan v = σ (place a v (best v) 0)
 
   at-best : (x y : ℕ) → PlanStep a plan x y → StepAt a r ok 0 σ W k (best x) x y
