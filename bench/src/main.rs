@@ -296,47 +296,28 @@ impl Game {
         (winners, counts)
     }
 
-    /// Draws p's set larger among the positions that are not done and whose region is at most the bound.
-    fn draw(&self, player: u8, bound: i32, region: &[i32], set: &mut [bool], queue: &mut Vec<u32>) {
-        let inside = |q: usize| region[q] >= 0 && region[q] <= bound;
-        let mut next = 0;
-        while next < queue.len() {
-            let q = queue[next] as usize;
-            next += 1;
-            for place in self.heads[q]..self.heads[q + 1] {
-                let p = self.sources[place as usize] as usize;
-                if inside(p) && !set[p] && (self.owner[p] == player || self.ends(p).iter().all(|&q| !inside(q as usize) || set[q as usize])) {
-                    set[p] = true;
-                    queue.push(p as u32);
-                }
-            }
-        }
-    }
-
     /// Priority promotion: a region that its player keeps in what is left below joins the lowest region above that
     /// the other player can leave to, until one is kept in the whole.
-    fn promotion(&mut self, limit: u64) -> (Vec<u32>, u64) {
+    fn promotion(&mut self, limit: u64) -> (Vec<u32>, Counts) {
         self.note();
         let n = self.size();
         let mut winners = vec![2u32; n];
-        let mut attractors = 0;
+        let mut counts = Counts { calls: 0, attractors: 0, passes: 0 };
         // the region of a position: the colour under which it stands, and -1 once it is won
         let mut region: Vec<i32> = self.colour.iter().map(|&c| c as i32).collect();
         while region.iter().any(|&r| r >= 0) {
             let mut bound = *region.iter().max().unwrap();
             loop {
-                attractors += 1;
-                if attractors > limit {
-                    return (winners, attractors);
+                if counts.attractors > limit {
+                    return (winners, counts);
                 }
                 let player = (bound % 2) as u8;
-                let mut set: Vec<bool> = region.iter().map(|&r| r == bound).collect();
-                let mut queue: Vec<u32> = (0..n as u32).filter(|&p| set[p as usize]).collect();
-                self.draw(player, bound, &region, &mut set, &mut queue);
-                for p in 0..n {
-                    if set[p] {
-                        region[p] = bound;
-                    }
+                let below: Vec<bool> = region.iter().map(|&r| r >= 0 && r <= bound).collect();
+                let seeds: Vec<u32> = (0..n as u32).filter(|&p| region[p as usize] == bound).collect();
+                let mut set = vec![false; n];
+                for p in self.attractor(player, &below, &seeds, &mut counts) {
+                    set[p as usize] = true;
+                    region[p as usize] = bound;
                 }
                 let open = (0..n).any(|p| set[p] && self.owner[p] == player && !self.ends(p).iter().any(|&q| set[q as usize]))
                     || (0..n).any(|p| set[p] && self.owner[p] != player && self.ends(p).iter().any(|&q| region[q as usize] >= 0 && region[q as usize] < bound));
@@ -361,14 +342,14 @@ impl Game {
                         bound = above;
                     }
                     None => {
-                        let mut won = set.clone();
-                        let mut queue: Vec<u32> = (0..n as u32).filter(|&p| won[p as usize]).collect();
-                        self.draw(player, i32::MAX, &region, &mut won, &mut queue);
+                        let left: Vec<bool> = region.iter().map(|&r| r >= 0).collect();
+                        let kept: Vec<u32> = (0..n as u32).filter(|&p| set[p as usize]).collect();
+                        for p in self.attractor(player, &left, &kept, &mut counts) {
+                            winners[p as usize] = player as u32;
+                            region[p as usize] = -1;
+                        }
                         for p in 0..n {
-                            if won[p] {
-                                winners[p] = player as u32;
-                                region[p] = -1;
-                            } else if region[p] >= 0 {
+                            if region[p] >= 0 {
                                 region[p] = self.colour[p] as i32;
                             }
                         }
@@ -377,7 +358,7 @@ impl Game {
                 }
             }
         }
-        (winners, attractors)
+        (winners, counts)
     }
 
     /// The positions from which the player reaches the set inside, the set included.
@@ -503,7 +484,7 @@ fn run(family: Family, size: u64, shuffled: bool) {
     let (winners, counts) = game.recursion();
     let first = start.elapsed().as_micros();
     let start = Instant::now();
-    let (others, attractors) = game.promotion(2_000_000);
+    let (others, promotions) = game.promotion(2_000_000);
     let second = start.elapsed().as_micros();
     let start = Instant::now();
     let (thirds, parts) = game.connected();
@@ -513,8 +494,8 @@ fn run(family: Family, size: u64, shuffled: bool) {
     let order = if shuffled { "shuffled" } else { "in order" };
     println!(
         "{family:?}, {order}: {size} positions, {} moves, player 0 wins {won}, {} calls, {} attractors, {} passes, {first} microseconds; \
-         promotion {attractors} attractors, {second} microseconds, {}; parts {} attractors, {third} microseconds, {}",
-        game.target.len(), counts.calls, counts.attractors, counts.passes, verdict(&others), parts.attractors, verdict(&thirds)
+         promotion {} attractors, {second} microseconds, {}; parts {} attractors, {third} microseconds, {}",
+        game.target.len(), counts.calls, counts.attractors, counts.passes, promotions.attractors, verdict(&others), parts.attractors, verdict(&thirds)
     );
 }
 
