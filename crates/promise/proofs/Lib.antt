@@ -3,9 +3,10 @@ pub mod Accepting
 pub mod OtherBounds
 pub mod Sheets
 pub mod Promised
-pub mod Given
-pub mod Kept
 pub mod Searching
 pub mod Tests
 pub mod Answering
+pub mod Given
+pub mod Kept
+pub mod Solvable
 pub mod Cases

@@ -115,7 +115,7 @@ sheet-few : (s : Sheet) (cs : List Call) → length s ≤ 128 → length (sheet-
 sheet-few s [] h = h
 sheet-few s (c ∷ cs) h = sheet-few (next s c) cs (next-few s c h)
 
-dec-long : (a : Arena) (t : Tables) → Dec (LongEnough a t)
+pub dec-long : (a : Arena) (t : Tables) → Dec (LongEnough a t)
 dec-long a t = elim (decLe (size a) (length (t .marks))) [
   | no n ↦ no (λ l. n (l .marks))
   | yes m ↦ elim (decLe (size a) (length (t .plan))) [
