@@ -1,6 +1,7 @@
 pub mod OneAnswer
 pub mod Accepting
 pub mod OtherBounds
+pub mod Neat
 pub mod Sheets
 pub mod Promised
 pub mod Searching
@@ -9,4 +10,5 @@ pub mod Answering
 pub mod Given
 pub mod Kept
 pub mod Solvable
+pub mod Whole
 pub mod Cases
