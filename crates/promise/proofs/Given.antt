@@ -1,6 +1,5 @@
 -- When a claim is accepted: a safe plan with its greatest wait and a safe counterplay, in good tables, are enough.
-use mathlib.Core.Path.{_≡_, refl, sym, subst, ap, _∙_}
-use mathlib.Core.Bool.{true}
+use mathlib.Core.Path.{_≡_}
 use mathlib.Core.Logic.{_⊎_, inl, inr}
 use Prim.Native.Nat.{ℕ, _*_, _/_, _≤_, _<_}
 use native.Mathlib.Omega.{arith}
@@ -9,13 +8,12 @@ use Rattle.std.proofs.shelf.Tests.{and-parts, leb-true, eq-eqb, cond-true}
 use Rattle.chart.specs.Arena.{Arena, size, Ranged}
 use Rattle.walks.specs.Games.{Walk, last, step, Inside}
 use Rattle.walks.proofs.Walks.{walk-map}
-use Rattle.game.specs.Reading.{degree-of}
-use Rattle.game.specs.Waiting.{stage-in, positions, may-be-laid, waiting}
+use Rattle.game.specs.Waiting.{stage-in, positions, waiting}
 use Rattle.game.specs.Claims.{by-entry}
 use Rattle.game.proofs.Readings.{degree-low}
 use Rattle.game.proofs.Positions.{waiting-ranged}
-use Rattle.promise.specs.Tables.{Tables, empty-entry, entries, mark-of, counter-of, Marked, GoodPlanEntry, GoodCounterEntry, LongEnough}
-use Rattle.promise.specs.Rules.{Cause, dead-end, too-large, short-table, short-memory, wrong-mark, wrong-plan-entry, wrong-counter-entry, leaves-marks, odd-loop, costly-loop, wrong-bound, no-counter-move, even-loop, Applies, Accepted}
+use Rattle.promise.specs.Tables.{Tables, entries, mark-of, counter-of, Marked, GoodPlanEntry, GoodCounterEntry, LongEnough}
+use Rattle.promise.specs.Rules.{dead-end, too-large, short-table, short-memory, wrong-mark, wrong-plan-entry, wrong-counter-entry, leaves-marks, odd-loop, costly-loop, wrong-bound, no-counter-move, even-loop, Accepted}
 use Rattle.promise.proofs.Accepting.{one-greatest}
 use Rattle.promise.proofs.Promised.{Sound}
 

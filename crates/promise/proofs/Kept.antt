@@ -1,15 +1,15 @@
 -- From what each player keeps in the waiting chart to the two halves of a claim: marks at the vertices with a stable level that the
 -- controller keeps, the plan by its moves at the best such level, the counterplay by the harbour's moves where it is reached.
-use mathlib.Core.Path.{_≡_, refl, sym, subst, ap, _∙_}
+use mathlib.Core.Path.{_≡_, sym, subst, _∙_}
 use mathlib.Core.Bool.{true}
 use mathlib.Core.Logic.{_⊎_, inl, inr}
-use Prim.Native.Nat.{ℕ, _/_, _≤_, _<_}
+use Prim.Native.Nat.{ℕ, _/_, _<_}
 use native.Mathlib.Omega.{arith}
 use Rattle.chart.specs.Arena.{Arena, size, Ranged}
 use Rattle.walks.specs.Games.{Walk, last, step, Reaches, Keeps}
 use Rattle.walks.proofs.Walks.{walk-map}
 use Rattle.game.specs.Reading.{owner-of, colour-of, degree-of, game-of}
-use Rattle.game.specs.Waiting.{place, stage-in, positions, may-be-laid, waiting, first-level, first}
+use Rattle.game.specs.Waiting.{place, stage-in, may-be-laid, waiting, first-level, first}
 use Rattle.game.specs.Claims.{PlanStep, WaitingStep, CostlyLoop, SafePlan, SafeCounter}
 use Rattle.game.specs.Bounds.{greatest-wait}
 use Rattle.game.proofs.Readings.{colour-low}
@@ -18,7 +18,7 @@ use Rattle.theory.specs.Levels.{Spot, Best}
 use Rattle.theory.proofs.Plans.{plan, plan-safe}
 use Rattle.theory.proofs.Best.{best, Won, best-is}
 use Rattle.theory.proofs.Deciding.{first-low, counter-safe}
-use Rattle.promise.specs.Tables.{Tables, plan-of, counter-of, mark-of, Marked}
+use Rattle.promise.specs.Tables.{Tables, plan-of, counter-of, Marked}
 use Rattle.promise.specs.Rules.{Met}
 use Rattle.promise.proofs.Accepting.{marked, greatest-is}
 use Rattle.promise.proofs.Promised.{Sound}

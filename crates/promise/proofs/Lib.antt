@@ -1,11 +1,14 @@
 pub mod OneAnswer
 pub mod Accepting
 pub mod OtherBounds
+pub mod Neat
 pub mod Sheets
 pub mod Promised
-pub mod Given
-pub mod Kept
 pub mod Searching
 pub mod Tests
 pub mod Answering
+pub mod Given
+pub mod Kept
+pub mod Solvable
+pub mod Whole
 pub mod Cases

@@ -1,4 +1,4 @@
--- The main promise, from the rules of acceptance.
+-- The first two parts of the main promise, from the rules of acceptance.
 use mathlib.Core.Path.{_≡_, sym}
 use mathlib.Core.Bool.{true}
 use mathlib.Core.Logic.{inl, inr}
@@ -19,9 +19,8 @@ use Rattle.theory.proofs.Deciding.{counterplay-beats, decides}
 use Rattle.helm.proofs.Standing.{records-the-voyage}
 use Rattle.promise.specs.Tables.{Tables, plan-of, counter-of, Marked}
 use Rattle.promise.specs.Rules.{dead-end, too-large, wrong-plan-entry, wrong-counter-entry, leaves-marks, odd-loop, costly-loop, wrong-bound, no-counter-move, even-loop, Accepted}
-use Rattle.promise.specs.Promise.{PlanHolds, AcceptedPlansHold, AcceptedCounterplaysBeat, ClaimAccepted, NoAcceptedClaimIsBeaten}
+use Rattle.promise.specs.Promise.{PlanHolds, AcceptedPlansHold, AcceptedCounterplaysBeat, ClaimAccepted}
 use Rattle.promise.proofs.Accepting.{dec-marked, plan-safe, bound-is, may-lay, moves-everywhere, counter-safe}
-use Rattle.promise.proofs.Sheets.{drawn-charts-are-solved}
 
 -- what each half of an accepted claim comes to
 pub record Sound (a : Arena) (t : Tables) (bound : ℕ) : Type 0 where
@@ -79,6 +78,3 @@ marks-the-held a r t bound c v h =
     let k = sound a r t bound (c .0) (c .2 .0) in
     let d = decides a r (k .laid) (k .moves) (Marked a t) (counter-of t) (k .counter) (plan-of t) (k .plan) v h in
     (d .0, λ held. elim (dec-marked a t v) [ yes m ↦ m | no n ↦ absurd (d .1 n held) ])
-
-pub no-accepted-claim-is-beaten : NoAcceptedClaimIsBeaten
-no-accepted-claim-is-beaten = record { plans = plans-hold; counterplays = counterplays-beat; drawn = drawn-charts-are-solved }

@@ -1,4 +1,4 @@
--- The third part of the main promise: a drawn chart is the plain sheet of its calls, and solve writes a claim exactly where it can.
+-- A drawn chart is the plain sheet of its calls, and solve writes a claim exactly where it can.
 use mathlib.Core.Path.{_≡_, refl, sym, subst, ap, _∙_}
 use mathlib.Core.Bool.{Bool, true, false, cond, _&&_}
 use mathlib.Core.Logic.{inl, inr, _↔_}
@@ -14,17 +14,17 @@ use Rattle.chart.specs.Arena.{Arena, size}
 use Rattle.chart.specs.Refusals.{Outcome, done, refused}
 use Rattle.game.specs.Reading.{no-vertex, degree-of}
 use Rattle.game.specs.Waiting.{positions}
-use Rattle.drawn.specs.Rules.{blank, place-outcome, placed, join-outcome, joined, strike-outcome, struck, degree-at, move-count, after}
+use Rattle.drawn.specs.Rules.{place-outcome, placed, join-outcome, joined, strike-outcome, struck, degree-at, move-count, after}
 use Rattle.drawn.proofs.Adjusted.{length-adjusted}
 use Rattle.drawn.proofs.Outcomes.{place-full, place-done, join-from, join-to, join-dear, join-full, join-done, strike-absent, strike-none, strike-done}
 use Rattle.promise.specs.Tables.{Tables, entries, LongEnough}
 use Rattle.promise.specs.Rules.{Cause, dead-end, too-large, short-table, short-memory, wrong-mark, wrong-plan-entry, wrong-counter-entry, leaves-marks, odd-loop, costly-loop, wrong-bound, no-counter-move, even-loop, number, Applies}
 use Rattle.promise.specs.Solving.{Solved}
-use Rattle.promise.specs.Sheets.{Call, place, join, strike, solve, check, after-call, after-calls, Sheet, takes, drawn-on, sheet-after, plain-sheet}
-use Rattle.promise.specs.Promise.{EveryVertexMoves, Suffices, WritesAClaim, DrawnChartsAreSolved}
+use Rattle.promise.specs.Sheets.{Call, place, join, strike, solve, check, after-call, after-calls, Sheet, takes, drawn-on, sheet-after}
+use Rattle.promise.specs.Promise.{EveryVertexMoves, Suffices, WritesAClaim}
 
 -- a sheet as a chart
-abbrev charted : Sheet → Arena
+abbrev pub charted : Sheet → Arena
 charted s = record { height = 8; vertices = s }
 
 -- the sheet after one call
@@ -93,7 +93,7 @@ step-is s (strike vertex number) = step-strike s vertex number
 step-is s (solve tables room) = refl
 step-is s (check tables bound room) = refl
 
-sheet-is : (s : Sheet) (cs : List Call) → after-calls (charted s) cs ≡ charted (sheet-after s cs)
+pub sheet-is : (s : Sheet) (cs : List Call) → after-calls (charted s) cs ≡ charted (sheet-after s cs)
 sheet-is s [] = refl
 sheet-is s (c ∷ cs) = ap (λ a. after-calls a cs) (step-is s c) ∙ sheet-is (next s c) cs
 
@@ -111,11 +111,11 @@ next-few s c h = elim (cases-bool (takes s c)) [
     few s (solve tables room) e h = h
     few s (check tables bound room) e h = h
 
-sheet-few : (s : Sheet) (cs : List Call) → length s ≤ 128 → length (sheet-after s cs) ≤ 128
+pub sheet-few : (s : Sheet) (cs : List Call) → length s ≤ 128 → length (sheet-after s cs) ≤ 128
 sheet-few s [] h = h
 sheet-few s (c ∷ cs) h = sheet-few (next s c) cs (next-few s c h)
 
-dec-long : (a : Arena) (t : Tables) → Dec (LongEnough a t)
+pub dec-long : (a : Arena) (t : Tables) → Dec (LongEnough a t)
 dec-long a t = elim (decLe (size a) (length (t .marks))) [
   | no n ↦ no (λ l. n (l .marks))
   | yes m ↦ elim (decLe (size a) (length (t .plan))) [
@@ -142,7 +142,7 @@ module _ (a : Arena) (few : positions a ≤ 4096) (low : a .height ≤ 28) (befo
   not-refused moves long bound p no-counter-move h x = omega arith
   not-refused moves long bound p even-loop h x = omega arith
 
-  solved-exactly : (o : Outcome (ℕ × ℕ)) → Solved a before after room o → WritesAClaim a after room o ↔ (EveryVertexMoves a × Suffices a before room)
+  pub solved-exactly : (o : Outcome (ℕ × ℕ)) → Solved a before after room o → WritesAClaim a after room o ↔ (EveryVertexMoves a × Suffices a before room)
   solved-exactly (done x) s = (
     (λ w. (
       (λ v h. elim (decLe 1 (degree-of a v)) [ yes k ↦ k | no n ↦ absurd (s .0 .0 dead-end v (h, omega arith)) ]),
@@ -165,14 +165,3 @@ module _ (a : Arena) (few : positions a ≤ 4096) (low : a .height ≤ 28) (befo
         (λ w. absurd (let e = w .1 in let z : _≡_ {A = ℕ} 0 1 = cc in omega arith)),
         λ k. absurd (not-refused (k .0) (k .1) 0 p (c .0) (let h = s .0 in let e = c .1 in omega arith) (c .2 .applies)),
       )
-
-pub drawn-charts-are-solved : DrawnChartsAreSolved
-drawn-charts-are-solved cs =
-    let e : after-calls blank cs ≡ plain-sheet cs = sheet-is [] cs in
-    let f = sheet-few [] cs (omega arith) in
-    record {
-      chart = e;
-      solved = λ before after room o s.
-          subst (λ a. WritesAClaim a after room o ↔ (EveryVertexMoves (plain-sheet cs) × Suffices (plain-sheet cs) before room)) (sym e)
-          (solved-exactly (plain-sheet cs) (omega arith) (omega arith) before after room o (subst (λ a. Solved a before after room o) e s));
-    }

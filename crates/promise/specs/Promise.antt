@@ -26,7 +26,7 @@ use Rattle.promise.specs.Sheets.{Call as ChartCall, after-calls, plain-sheet}
 abbrev pub ClaimAccepted : Arena → Tables → ℕ → Type 0
 ClaimAccepted a t bound = (room : ℕ) × (answer : ℕ × ℕ) × Checked a t bound room (done answer)
 
--- A run of the helm, begun with those marks and that tally: what finish gives after the calls is the record of the voyage that
+-- From where a run of the helm stands, at the start of a voyage: what finish gives after the calls is the record of the voyage that
 -- they made, and its worst wait is at most the bound.
 pub record RunHolds (a : Arena) (t : Tables) (bound start : ℕ) (run : Run) (calls : List Call) : Type 0 where
   pub record-of : RecordOf a (t .plan) start (made a (t .plan) run calls) (finished (after-all a (t .plan) run calls .state))
@@ -79,14 +79,17 @@ Suffices a t room = LongEnough a t × (12 * positions a ≤ room)
 abbrev pub WritesAClaim : Arena → Tables → ℕ → Outcome (ℕ × ℕ) → Type 0
 WritesAClaim a t room o = (answer : ℕ × ℕ) × (o ≡ done answer) × Checked a t (answer .1) room (done answer)
 
--- (c) However place, join, strike, solve and check calls are arranged on a drawn chart from its making, refused ones too, afterwards
--- the chart is the plain sheet, and solve writes a claim that check accepts exactly when every vertex of the plain sheet has a
--- move and the tables suffice.
+-- After a list of calls on a drawn chart, from its making:
 pub record SheetSolved (calls : List ChartCall) : Type 0 where
+  -- the chart is the plain sheet;
   pub chart : after-calls blank calls ≡ plain-sheet calls
+  -- solve has an answer, and tables to leave, whatever tables and room it is given;
+  pub answers : (before : Tables) (room : ℕ) → (after : Tables) × (o : Outcome (ℕ × ℕ)) × Solved (after-calls blank calls) before after room o
+  -- and it writes a claim that check accepts exactly when every vertex of the plain sheet has a move and the tables suffice.
   pub solved : (before after : Tables) (room : ℕ) (o : Outcome (ℕ × ℕ)) → Solved (after-calls blank calls) before after room o →
       WritesAClaim (after-calls blank calls) after room o ↔ (EveryVertexMoves (plain-sheet calls) × Suffices (plain-sheet calls) before room)
 
+-- (c) So it is however place, join, strike, solve and check calls are arranged, refused ones too.
 abbrev pub DrawnChartsAreSolved : Type 0
 DrawnChartsAreSolved = (calls : List ChartCall) → SheetSolved calls
 

@@ -4,10 +4,9 @@ use mathlib.Core.List.{List, [], _∷_, _++_}
 use Prim.Native.Nat.{ℕ}
 use lib.Dec.{leb, ltb}
 use lib.ListN.{length, getD}
-use Rattle.std.specs.shelf.Lists.{removed}
 use Rattle.chart.specs.Arena.{Arena, Vertex}
 use Rattle.game.specs.Reading.{no-vertex}
-use Rattle.drawn.specs.Rules.{placed, joined, struck, adjusted, move-count}
+use Rattle.drawn.specs.Rules.{placed, joined, struck, adjusted, with-move, without-move, move-count}
 use Rattle.promise.specs.Tables.{Tables}
 
 -- A call on a drawn chart. solve takes tables and room for working memory, check a bound besides; any tables will do.
@@ -46,8 +45,8 @@ takes s (check tables bound room) = false
 -- The sheet with the call drawn on it: a vertex without moves behind the others, a last move at from, one move taken out.
 abbrev pub drawn-on : Sheet → Call → Sheet
 drawn-on s (place owner colour) = s ++ record { owner = owner; colour = colour; moves = [] } ∷ []
-drawn-on s (join from to cost) = adjusted (λ v. record { owner = v .owner; colour = v .colour; moves = v .moves ++ record { target = to; cost = cost } ∷ [] }) s from
-drawn-on s (strike vertex number) = adjusted (λ v. record { owner = v .owner; colour = v .colour; moves = removed (v .moves) number }) s vertex
+drawn-on s (join from to cost) = adjusted (with-move (record { target = to; cost = cost })) s from
+drawn-on s (strike vertex number) = adjusted (without-move number) s vertex
 drawn-on s (solve tables room) = s
 drawn-on s (check tables bound room) = s
 
