@@ -1,3 +1,5 @@
+ghost use mathlib.Core.Path.{_≡_};
+
 /// How many answers came, and a sum of what they said, which their order changes too.
 #[derive(Clone, Copy)]
 pub struct Tally {
@@ -6,7 +8,10 @@ pub struct Tally {
 }
 
 impl Tally {
-    pub fn new() -> Tally {
+    pub fn new() -> Tally
+        ensures asked { λ r. ⌜ r .asked ≡ 0 ⌝ }
+        ensures sum { λ r. ⌜ r .sum ≡ 0 ⌝ }
+    {
         Tally { asked: 0, sum: 0 }
     }
 

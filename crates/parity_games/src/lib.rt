@@ -1,4 +1,6 @@
-ghost use Prim.Native.Nat.{_<_, _≤_};
+ghost use Prim.Native.Nat.{_%_, _<_, _≤_};
+ghost use mathlib.Core.Path.{_≡_};
+ghost use lib.ListN.{set};
 
 /// The moves of each position of a generated game. Some may end at the same position.
 pub const MOVES: usize = 4;
@@ -40,19 +42,24 @@ pub fn mixed(seed: u64, first: u64, second: u64) -> u64 {
 pub fn rest(number: u64, by: u64) -> u64
     ensures low { λ r. ⌜ r ≤ by ⌝ }
     ensures below { λ r. ⌜ (0 < by → r < by) ⌝ }
+    ensures rest { λ r. ⌜ (0 < by → r ≡ number % by) ⌝ }
 {
     if by == 0 { 0 } else { number % by }
 }
 
 /// Writes into a table, unless the place lies past its end.
-pub fn put(table: &mut [u32], place: usize, value: u32) {
+pub fn put(table: &mut [u32], place: usize, value: u32)
+    ensures { λ _. ⌜ now (table .exit) ≡ set (now (table .entry)) place value ⌝ }
+{
     if place < table.len() {
         table[place] = value;
     }
 }
 
 /// The same of a table of bytes.
-pub fn put_byte(table: &mut [u8], place: usize, value: u8) {
+pub fn put_byte(table: &mut [u8], place: usize, value: u8)
+    ensures { λ _. ⌜ now (table .exit) ≡ set (now (table .entry)) place value ⌝ }
+{
     if place < table.len() {
         table[place] = value;
     }

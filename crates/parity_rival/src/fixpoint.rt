@@ -1,8 +1,12 @@
+ghost use mathlib.Core.Path.{_≡_};
+ghost use lib.ListN.{getD};
 use parity::ParityGame;
 use parity_games::put;
 
 /// What stands at a place of the table, and 0 past its end.
-pub fn get(table: &[u32], place: usize) -> u32 {
+pub fn get(table: &[u32], place: usize) -> u32
+    ensures { λ r. ⌜ r ≡ getD (now (table .entry)) place 0 ⌝ }
+{
     if place < table.len() { table[place] } else { 0 }
 }
 

@@ -48,7 +48,10 @@ impl Orders {
         let mut plan = [EMPTY; 128];
         let mut vertex = 0usize;
         for entry in entries.split(',') {
-            if vertex < 128 && entry != "-" {
+            if vertex >= 128 {
+                return Err("the plan has more entries than a chart has vertices".into());
+            }
+            if entry != "-" {
                 plan[vertex] = entry.parse::<u16>()?;
             }
             vertex = vertex.saturating_add(1);
