@@ -1,3 +1,5 @@
+#![tactic(auto)]
+
 ghost use Rattle.std.specs.Prelude.{◌≡◌, ℕ, length, Option};
 ghost use Rattle.chart.specs.Arena.{Arena, Ranged, size, vertex_at, move_at};
 ghost use Rattle.chart.specs.Players.{numbered};

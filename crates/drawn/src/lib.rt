@@ -1,3 +1,5 @@
+#![tactic(auto)]
+
 pub mod answers;
 mod arrays;
 pub mod edits;

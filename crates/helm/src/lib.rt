@@ -1,3 +1,5 @@
+#![tactic(auto)]
+
 pub use calls::{begin, finish, hear, steer};
 pub use law::records_are_of_the_voyage_made;
 pub use turns::{HarbourTurn, OurTurn, Record, Slip, Turn};

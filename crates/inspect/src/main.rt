@@ -1,3 +1,5 @@
+#![tactic(auto)]
+
 use chart::{Chart, lowest_dead_end};
 use drawn::Drawn;
 use intake::fill;

@@ -1,3 +1,5 @@
+#![tactic(auto)]
+
 use asks::{in_order, in_turn};
 use chart::Chart;
 use drawn::Drawn;

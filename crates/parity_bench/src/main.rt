@@ -1,3 +1,5 @@
+#![tactic(auto)]
+
 use parity::rows::Rows;
 use parity::solver::solve;
 use parity_games::{Family, Plan};

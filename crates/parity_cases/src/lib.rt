@@ -1,3 +1,5 @@
+#![tactic(auto)]
+
 use chart::refusal::Refusal;
 use parity::rows::Rows;
 use parity::solver::solve;

@@ -1,3 +1,5 @@
+#![tactic(auto)]
+
 use contest::{THREES, family_agrees, three_agrees};
 use parity_games::{Family, Plan};
 use std::io;

@@ -1,3 +1,5 @@
+#![tactic(auto)]
+
 use anyhow::anyhow;
 use drawn::Drawn;
 use helm::{begin, finish};

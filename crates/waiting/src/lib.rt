@@ -1,3 +1,5 @@
+#![tactic(auto)]
+
 pub mod layer;
 pub mod limits;
 pub mod names;
