@@ -13,11 +13,11 @@ looked a v k h e =
     let same : Some k ≡ Some (length x.0.moves) = e ∙ ap (option_map (λ x. length x.moves)) x.1 in
     (x.0, x.1, cc)
 
-pub returns-in-default : goal.returns-in-default
-returns-in-default g c =
+pub returns-in_default : goal.returns-in_default
+returns-in_default g c =
     let a = g.C.Chart.meaning c.args.chart.now in
     let x = nth_within a.vertices c.loop-vertex.vertex (omega arith) in
-    let none : None ≡ Some (length x.0.moves) = c.in-default.ensures ∙ ap (option_map (λ x. length x.moves)) x.1 in
+    let none : None ≡ Some (length x.0.moves) = c.in_default.ensures ∙ ap (option_map (λ x. length x.moves)) x.1 in
     absurd (let z : ◌≡◌ {A = ℕ} 0 1 = cc in omega arith)
 
 pub returns-then-degree-eq0 : goal.returns-then-degree-eq0
