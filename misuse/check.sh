@@ -9,17 +9,18 @@ rt=${RT:-rt}
 copy=$(mktemp -d)
 trap 'rm -rf "$copy"' EXIT
 
-cp -r "$root/crates" "$root/crates.txt" "$copy/"
+tar -C "$root" --exclude='crates/*/out' -cf - crates crates.txt | tar -C "$copy" -xf -
 helm_needs=$(sed -n 's/^helm: *//p' "$copy/crates.txt")
 echo "misuse: $helm_needs helm" >> "$copy/crates.txt"
 mkdir -p "$copy/crates/misuse/src"
-cd "$copy" || exit 2
+said=$copy/said
+cd "$copy/crates/misuse" || exit 2
 
 failed=0
 
 compile() {
-    cp "$here/$1.rt.txt" crates/misuse/src/lib.rt
-    $rt dev misuse > out 2>&1
+    cp "$here/$1.rt.txt" src/lib.rt
+    $rt check > "$said" 2>&1
 }
 
 must_compile() {
@@ -27,7 +28,7 @@ must_compile() {
         echo "$1: proved, as it must be"
     else
         echo "$1: NOT PROVED"
-        tail -n 5 out
+        tail -n 5 "$said"
         failed=1
     fi
 }
@@ -36,12 +37,12 @@ must_refuse() {
     if compile "$1"; then
         echo "$1: NOT REFUSED"
         failed=1
-    elif grep -q "src/lib.rt:.*error\[$2\]" out; then
+    elif grep -q "src/lib.rt:.*error\[$2\]" "$said"; then
         echo "$1: refused, as it must be"
-        grep "error\[" out | sed "s|$copy/crates/misuse/||g; s|^|    |"
+        grep "error\[" "$said" | sed "s|$copy/crates/misuse/||g; s|^|    |"
     else
         echo "$1: refused, but not for $2"
-        tail -n 5 out
+        tail -n 5 "$said"
         failed=1
     fi
 }
