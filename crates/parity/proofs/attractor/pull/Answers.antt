@@ -1,4 +1,4 @@
-use Rattle.std.proofs.Common.{◌≡◌, ℕ, ◌^◌, ◌<◌, ◌≤◌, length, arith}
+use Rattle.std.proofs.Common.{arith}
 use Rattle.parity.proofs.attractor.pull.Goals as goal
 
 pub offset_bounds-tags-end : goal.offset_bounds-tags-end

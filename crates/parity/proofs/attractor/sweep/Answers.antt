@@ -1,4 +1,4 @@
-use Rattle.std.proofs.Common.{◌≡◌, ℕ, ◌<◌, true, false, length, sym, refl, ap, ◌∙◌, subst, arith}
+use Rattle.std.proofs.Common.{◌≡◌, ◌<◌, sym, ap, ◌∙◌, subst, arith}
 use Rattle.parity.specs.Sheets.{Sheet, sheet}
 use Rattle.parity.specs.Attractors.{turned}
 use Rattle.parity.proofs.Sweeps.{swept_joins, swept_passes, turned_low}

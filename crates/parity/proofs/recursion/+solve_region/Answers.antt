@@ -1,6 +1,5 @@
-use Rattle.std.proofs.Common.{◌≡◌, length, sym, ◌∙◌, arith, rules}
+use Rattle.std.proofs.Common.{length, arith}
 use Rattle.parity.specs.Sheets.{Sheet, sheet}
-use Rattle.parity.proofs.Turns.{empty_solved}
 use Rattle.parity.proofs.Steps.{step_start, step_below, step_over, step_again, step_less, step_last_below, step_last}
 use Rattle.parity.proofs.recursion.+solve_region.Goals as goal
 

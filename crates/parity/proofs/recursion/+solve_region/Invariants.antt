@@ -1,4 +1,4 @@
-use Rattle.std.proofs.Common.{◌+◌, ◌-◌}
+use Rattle.std.proofs.Common.{◌+◌}
 use Rattle.parity.specs.Sheets.{sheet}
 use Rattle.parity.specs.Attractors.{outside}
 use Rattle.parity.specs.Solving.{Round}

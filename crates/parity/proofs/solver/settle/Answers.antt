@@ -1,4 +1,4 @@
-use Rattle.std.proofs.Common.{◌≤◌, arith}
+use Rattle.std.proofs.Common.{arith}
 use Rattle.parity.proofs.Settling.{whole_region, whole_settled}
 use Rattle.parity.proofs.solver.settle.Goals as goal
 
