@@ -1,13 +1,13 @@
 -- A board that keeps to the ranges and the same board clipped: what is settled of one is settled of
 -- the other.
-use Rattle.std.proofs.Common.{◌≡◌, ℕ, zero, suc, ◌%◌, ◌<◌, ◌≤◌, min, Bool, cond, eqb, ltb, List, get_or, Some, None, sym, refl, ap, ◌∙◌, subst, arith}
+use Rattle.std.proofs.Common.{◌≡◌, ℕ, zero, suc, ◌%◌, ◌<◌, min, Bool, cond, eqb, ltb, List, get_or, Some, None, sym, refl, ap, ◌∙◌, subst, arith}
 use Rattle.std.proofs.lemmas.Bool.{lt-ltb, cond-true}
-use Rattle.walks.specs.Games.{Game, Step, Inside, Loop, Keeps}
+use Rattle.walks.specs.Games.{Game, Step, Keeps}
 use Rattle.walks.proofs.Walks.{walk_map}
 use Rattle.walks.proofs.Keeping.{same_sets}
 use Rattle.parity.specs.Boards.{Board, Ranged}
-use Rattle.parity.specs.Clips.{clipped, clip}
-use Rattle.parity.specs.Promise.{or_else, lowest, judged, fitting, dead_end, verdict, Settled}
+use Rattle.parity.specs.Clips.{clip}
+use Rattle.parity.specs.Promise.{or_else, lowest, judged, fitting, verdict, Settled}
 
 -- two games that are alike on R
 module _ (g h : Game) (R : ℕ → Type 0) (owners : (p : ℕ) → R p → g.owner p ≡ h.owner p) (colours : (p : ℕ) → R p → g.colour p ≡ h.colour p)

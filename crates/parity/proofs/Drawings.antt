@@ -1,12 +1,10 @@
 -- How a set grows by one position after another that its player draws in.
-use Rattle.std.proofs.Common.{◌≡◌, ℕ, zero, suc, ◌+◌, ◌-◌, ◌<◌, ◌≤◌, Bool, true, false, cond, eqb, ltb, ◌⊎◌, List, length, get_or, set, sym, refl, ap, ◌∙◌, subst, inl, inr, arith}
+use Rattle.std.proofs.Common.{◌≡◌, ℕ, suc, ◌<◌, cond, eqb, ◌⊎◌, sym, refl, ap, ◌∙◌, subst, inl, inr, arith}
 use native.Mathlib.Decide.{ℕ_discrete}
-use Rattle.std.proofs.lemmas.List.{get_or-set_same, get_or-set_other}
-use Rattle.std.proofs.lemmas.Bool.{eq-eqb, ne_eqb, cond-true, cond-false, lt-ltb, le-ltb}
-use Rattle.walks.specs.Games.{Game}
+use Rattle.std.proofs.lemmas.Bool.{eq-eqb, ne_eqb, cond-true, cond-false}
 use Rattle.parity.specs.Boards.{Board}
-use Rattle.parity.specs.Sheets.{Sheet, sheet, Kept}
-use Rattle.parity.specs.Attractors.{Pulls, Leaks, Falls, Joined, Drawing, Puts, Tried, outside, turned, Swept}
+use Rattle.parity.specs.Sheets.{Sheet, Kept}
+use Rattle.parity.specs.Attractors.{Pulls, Falls, Joined, Drawing, Puts}
 
 -- the rank of the newcomer p is r
 newest : (ℕ → ℕ) → ℕ → ℕ → ℕ → ℕ

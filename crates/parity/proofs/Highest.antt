@@ -1,5 +1,5 @@
 -- The least number above the colours of a region, one position after another.
-use Rattle.std.proofs.Common.{◌≡◌, ℕ, ◌+◌, ◌<◌, ◌≤◌, sym, ap, subst, arith}
+use Rattle.std.proofs.Common.{ℕ, ◌+◌, ◌<◌, ◌≤◌, ap, arith}
 use native.Mathlib.Decide.{ℕ_discrete}
 use Rattle.walks.specs.Games.{Game}
 use Rattle.parity.specs.Rounds.{Highest}

@@ -1,9 +1,8 @@
 -- From the region of all positions to the whole game.
-use Rattle.std.proofs.Common.{◌≡◌, ℕ, ◌+◌, ◌*◌, ◌<◌, ◌≤◌, eqb, ltb, ◌⊎◌, List, length, get_or, take, Some, None, sym, refl, ap, ◌∙◌, subst, inl, inr, arith}
+use Rattle.std.proofs.Common.{◌≡◌, ℕ, ◌*◌, ◌<◌, ◌≤◌, eqb, ltb, ◌⊎◌, List, get_or, None, sym, refl, ap, ◌∙◌, inl, inr, arith}
 use native.Mathlib.Decide.{ℕ_discrete}
 use Rattle.std.proofs.lemmas.Bool.{eqb-false, le-ltb, cond-false}
-use Rattle.chart.specs.Refusals.{Outcome, done, refused}
-use Rattle.walks.specs.Games.{Keeps}
+use Rattle.chart.specs.Refusals.{done}
 use Rattle.walks.proofs.Apart.{not_both}
 use Rattle.walks.proofs.Keeping.{same_sets, same_kept}
 use Rattle.parity.specs.Boards.{Board, Ranged}

@@ -1,6 +1,6 @@
 -- The rounds as the recursion takes them: the top colour, its player and the marks from the number
 -- of colours and the bound.
-use Rattle.std.proofs.Common.{◌≡◌, ℕ, ◌+◌, ◌-◌, ◌%◌, ◌<◌, ◌≤◌, Bool, true, false, sym, refl, subst, arith}
+use Rattle.std.proofs.Common.{◌≡◌, ℕ, ◌+◌, ◌-◌, ◌%◌, ◌<◌, ◌≤◌, Bool, true, false, refl, subst, arith}
 use Rattle.parity.specs.Boards.{Board, Ranged}
 use Rattle.parity.specs.Sheets.{Sheet}
 use Rattle.parity.specs.Attractors.{Drawn, outside}

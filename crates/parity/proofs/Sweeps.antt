@@ -1,5 +1,5 @@
 -- A sweep, one position after another.
-use Rattle.std.proofs.Common.{◌≡◌, ℕ, zero, suc, ◌+◌, ◌-◌, ◌<◌, ◌≤◌, Bool, true, false, cond, ◌⊎◌, sym, refl, ap, ◌∙◌, subst, inl, inr, arith}
+use Rattle.std.proofs.Common.{◌≡◌, ℕ, ◌+◌, ◌<◌, Bool, true, false, sym, refl, ◌∙◌, subst, inl, arith}
 use native.Mathlib.Decide.{ℕ_discrete}
 use Rattle.parity.specs.Boards.{Board}
 use Rattle.parity.specs.Sheets.{Sheet}

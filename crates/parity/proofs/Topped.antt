@@ -1,13 +1,13 @@
 -- What is left, after the top colour is seeded and its player has drawn in what it can.
-use Rattle.std.proofs.Common.{◌≡◌, ℕ, ◌+◌, ◌<◌, ◌≤◌, Bool, ◌⊎◌, sym, refl, ap, ◌∙◌, subst, inl, inr, arith}
+use Rattle.std.proofs.Common.{◌≡◌, ℕ, ◌+◌, ◌<◌, ◌≤◌, Bool, ◌⊎◌, sym, ◌∙◌, subst, inl, inr, arith}
 use native.Mathlib.Decide.{ℕ_discrete}
 use Rattle.std.proofs.lemmas.Bool.{cases_lt}
-use Rattle.walks.specs.Games.{Game, Step, Keeps, Descends, AtTop}
+use Rattle.walks.specs.Games.{Game}
 use Rattle.parity.specs.Boards.{Board, Ranged}
-use Rattle.parity.specs.Sheets.{Sheet, Kept, Under, Marked}
+use Rattle.parity.specs.Sheets.{Sheet, Kept}
 use Rattle.parity.specs.Attractors.{Leaks, Falls, Drawn}
 use Rattle.parity.specs.Rounds.{Seeded, Highest}
-use Rattle.parity.specs.Solving.{Region, Round}
+use Rattle.parity.specs.Solving.{Region}
 
 pub kept_then : (a b c : Sheet) (p : ℕ) → Kept a b p → Kept b c p → Kept a c p
 kept_then a b c p k l = record { tag = l.tag ∙ k.tag; winner = l.winner ∙ k.winner; move = l.move ∙ k.move }

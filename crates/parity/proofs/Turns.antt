@@ -1,16 +1,16 @@
 -- The rounds of the solver, one after another, and how they end.
-use Rattle.std.proofs.Common.{◌≡◌, ℕ, ◌+◌, ◌-◌, ◌%◌, ◌<◌, ◌≤◌, Bool, true, false, ◌⊎◌, sym, refl, ap, ◌∙◌, subst, inl, inr, arith}
+use Rattle.std.proofs.Common.{◌≡◌, ℕ, ◌+◌, ◌%◌, ◌<◌, ◌≤◌, true, false, ◌⊎◌, sym, refl, ap, ◌∙◌, subst, inl, inr, arith}
 use native.Mathlib.Decide.{ℕ_discrete}
 use Rattle.std.proofs.lemmas.Bool.{cases_lt}
-use Rattle.walks.specs.Games.{Game, Step, Keeps, Descends, AtTop, Trap}
+use Rattle.walks.specs.Games.{Keeps, Descends, AtTop, Trap}
 use Rattle.walks.proofs.Keeping.{attractor_kept, whole_kept, trap_kept, join_kept, same_kept, same_sets, none_kept}
 use Rattle.parity.specs.Boards.{Board, Ranged}
 use Rattle.parity.specs.Sheets.{Sheet, Kept, Under, Marked}
-use Rattle.parity.specs.Attractors.{Leaks, Falls, Drawn, outside}
+use Rattle.parity.specs.Attractors.{Falls, Drawn, outside}
 use Rattle.parity.specs.Rounds.{Seeded, Highest, Given}
 use Rattle.parity.specs.Solving.{Region, Won, Solved, Round}
 use Rattle.parity.proofs.Counts.{outside_lt}
-use Rattle.parity.proofs.Topped.{kept_then, Tops, Topped}
+use Rattle.parity.proofs.Topped.{kept_then, Topped}
 
 -- a play that falls into the set of a mark descends there, by any strategy that moves alike
 pub falls_descends : (b : Board) → Ranged b → (i m : ℕ) (t s u rank : ℕ → ℕ) (R : ℕ → Type 0) (p : ℕ) → p < b.size → u p ≡ s p →

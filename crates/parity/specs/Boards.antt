@@ -1,5 +1,5 @@
 -- A finite parity game: how many positions it has, and what stands at each.
-use Rattle.std.specs.Prelude.{ℕ, ◌+◌, ◌^◌, ◌<◌, ◌≤◌}
+use Rattle.std.specs.Prelude.{ℕ, ◌^◌, ◌<◌, ◌≤◌}
 use Rattle.walks.specs.Games.{Game}
 
 -- The positions are the numbers below size. What the game answers past them, or past a position's

@@ -1,5 +1,5 @@
 -- A clipped board keeps to the ranges: the proof that a game's ghost member can give.
-use Rattle.std.specs.Prelude.{◌≡◌, ℕ, ◌<◌, min, cond, ◌⊎◌, nat_lt}
+use Rattle.std.specs.Prelude.{◌≡◌, ℕ, ◌<◌, min, nat_lt}
 use Rattle.std.proofs.Common.{inl, inr, arith}
 use Rattle.std.proofs.lemmas.Bool.{cases_lt, lt-ltb, le-ltb, cond-true, cond-false}
 use Rattle.parity.specs.Boards.{Board, Ranged}

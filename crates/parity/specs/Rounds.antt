@@ -2,7 +2,6 @@
 -- has gained below, and how far colours reach in what is left.
 use Rattle.std.specs.Prelude.{◌≡◌, ℕ, ◌+◌, ◌<◌, ◌≤◌, Bool, true, false}
 use Rattle.walks.specs.Games.{Game}
-use Rattle.parity.specs.Boards.{Board}
 use Rattle.parity.specs.Sheets.{Sheet, Kept}
 
 -- If any move from p ends at a tag of at most m, then k does.

@@ -37,8 +37,8 @@ fn clear(tags: &mut [u32])
 fn settle<G: ParityGame>(game: &G, winners: &mut [u32], moves: &mut [u32], memory: &mut [u32])
     requires winners_len { length winners.old ≡ (G.ParityGame.board game.now).size }
     requires moves_len { length moves.old ≡ (G.ParityGame.board game.now).size }
-    requires game_in_bounds { 8 * (G.ParityGame.board game.now).size ≤ length memory.old }
-    requires by_index { (p : ℕ) → p < (G.ParityGame.board game.now).size → 0 < (G.ParityGame.board game.now).game.degree p }
+    requires enough_memory { 8 * (G.ParityGame.board game.now).size ≤ length memory.old }
+    requires no_dead_end { (p : ℕ) → p < (G.ParityGame.board game.now).size → 0 < (G.ParityGame.board game.now).game.degree p }
     ensures { Settled (G.ParityGame.board game.now) winners.new moves.new }
 {
     let size = winners.len();

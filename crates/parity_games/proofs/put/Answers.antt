@@ -1,9 +1,7 @@
-use mathlib.Core.Path.{sym}
-use native.Mathlib.Omega.{arith}
-use lib.Seq.{set_out}
-use borrow.Author.Rules.{rules}
+use Rattle.std.proofs.Common.{sym, arith}
+use Rattle.std.proofs.lemmas.List.{set_past}
 use Rattle.parity_games.proofs.put.Goals as goal
 
 -- Past the table's end nothing is written.
 pub returns-else-place-table : goal.returns-else-place-table
-returns-else-place-table c = sym (set_out c.args.table.now c.args.place c.args.value (omega arith))
+returns-else-place-table c = sym (set_past c.args.table.now c.args.place c.args.value (omega arith))

@@ -1,4 +1,3 @@
-use Rattle.std.proofs.Common.{length}
 use Rattle.parity.specs.Sheets.{sheet}
 use Rattle.parity.specs.Attractors.{Swept}
 use Rattle.parity.proofs.attractor.sweep.Given as goal

@@ -1,19 +1,18 @@
-use Rattle.std.proofs.Common.{◌≡◌, length, sym, ◌∙◌, arith, rules}
+use Rattle.std.proofs.Common.{length, arith}
 use Rattle.parity.specs.Sheets.{Sheet, sheet}
-use Rattle.parity.proofs.Turns.{empty_solved}
 use Rattle.parity.proofs.Steps.{step_start, step_below, step_over, step_again, step_less, step_last_below, step_last}
 use Rattle.parity.proofs.recursion.+solve_region.Goals as goal
 
 pub rounds-init : goal.rounds-init
-rounds-init g t c = step_start _ (g.G.ParityGame.ranged c.args.game.now) c.args.colours c.args.bound c.if-colours-eq0.false _ c.requires.1
+rounds-init g t c = step_start _ (g.G.ParityGame.ranged c.args.game.now) c.args.colours c.args.bound c.if-colours-eq0.false _ c.requires.region
 
-pub solve-region-requires : goal.solve-region-requires
-solve-region-requires g t c κs within =
+pub solve_region-requires : goal.solve_region-requires
+solve_region-requires g t c κs within =
     let first : Sheet = sheet c.args.tags.now c.args.winners.now c.args.moves.now in
     let a : Sheet = sheet c.rounds.tags c.rounds.winners c.rounds.moves in
     let y : Sheet = sheet c.seed.new.tags c.seed.new.winners c.seed.new.moves in
     let z : Sheet = sheet c.attract.new.tags c.attract.new.winners c.attract.new.moves in
-    let below = step_below _ (g.G.ParityGame.ranged c.args.game.now) c.args.colours c.args.bound c.if-colours-eq0.false first c.requires.1
+    let below = step_below _ (g.G.ParityGame.ranged c.args.game.now) c.args.colours c.args.bound c.if-colours-eq0.false first c.requires.region
     a c.rounds.invariant y z c.seed.result c.seed.ensures c.attract.ensures c.highest-below.result c.highest-below.ensures in
     ((let less = below.0 in omega arith), (within, (record { tags = omega arith; winners = omega arith; moves = omega arith }, below.1)))
 
@@ -23,10 +22,10 @@ returns-then-not-give g t c =
     let a : Sheet = sheet c.rounds.tags c.rounds.winners c.rounds.moves in
     let y : Sheet = sheet c.seed.new.tags c.seed.new.winners c.seed.new.moves in
     let z : Sheet = sheet c.attract.new.tags c.attract.new.winners c.attract.new.moves in
-    let x : Sheet = sheet c.solve-region.new.tags c.solve-region.new.winners c.solve-region.new.moves in
-    step_over _ (g.G.ParityGame.ranged c.args.game.now) c.args.colours c.args.bound c.if-colours-eq0.false first c.requires.1
-    a c.rounds.invariant y z c.seed.result c.seed.ensures c.attract.ensures x c.solve-region.ensures (length c.solve-region.new.winners) (omega arith)
-    (sheet c.give.new.tags c.solve-region.new.winners c.solve-region.new.moves).tag c.if-not-give.ensures
+    let x : Sheet = sheet c.solve_region.new.tags c.solve_region.new.winners c.solve_region.new.moves in
+    step_over _ (g.G.ParityGame.ranged c.args.game.now) c.args.colours c.args.bound c.if-colours-eq0.false first c.requires.region
+    a c.rounds.invariant y z c.seed.result c.seed.ensures c.attract.ensures x c.solve_region.ensures (length c.solve_region.new.winners) (omega arith)
+    (sheet c.give.new.tags c.solve_region.new.winners c.solve_region.new.moves).tag c.if-not-give.ensures
 
 pub rounds-smaller : goal.rounds-smaller
 rounds-smaller g t c =
@@ -34,11 +33,11 @@ rounds-smaller g t c =
     let a : Sheet = sheet c.rounds.tags c.rounds.winners c.rounds.moves in
     let y : Sheet = sheet c.seed.new.tags c.seed.new.winners c.seed.new.moves in
     let z : Sheet = sheet c.attract.new.tags c.attract.new.winners c.attract.new.moves in
-    let x : Sheet = sheet c.solve-region.new.tags c.solve-region.new.winners c.solve-region.new.moves in
+    let x : Sheet = sheet c.solve_region.new.tags c.solve_region.new.winners c.solve_region.new.moves in
     let u : Sheet = sheet c.attract-in-rounds.new.tags c.attract-in-rounds.new.winners c.attract-in-rounds.new.moves in
-    step_less _ (g.G.ParityGame.ranged c.args.game.now) c.args.colours c.args.bound c.if-colours-eq0.false first c.requires.1
-    a c.rounds.invariant y z c.seed.result c.seed.ensures c.attract.ensures x c.solve-region.ensures (length c.solve-region.new.winners) (omega arith)
-    (sheet c.give.new.tags c.solve-region.new.winners c.solve-region.new.moves).tag c.if-not-give.ensures u c.attract-in-rounds.ensures
+    step_less _ (g.G.ParityGame.ranged c.args.game.now) c.args.colours c.args.bound c.if-colours-eq0.false first c.requires.region
+    a c.rounds.invariant y z c.seed.result c.seed.ensures c.attract.ensures x c.solve_region.ensures (length c.solve_region.new.winners) (omega arith)
+    (sheet c.give.new.tags c.solve_region.new.winners c.solve_region.new.moves).tag c.if-not-give.ensures u c.attract-in-rounds.ensures
 
 pub rounds-preserved : goal.rounds-preserved
 rounds-preserved g t c =
@@ -46,18 +45,18 @@ rounds-preserved g t c =
     let a : Sheet = sheet c.rounds.tags c.rounds.winners c.rounds.moves in
     let y : Sheet = sheet c.seed.new.tags c.seed.new.winners c.seed.new.moves in
     let z : Sheet = sheet c.attract.new.tags c.attract.new.winners c.attract.new.moves in
-    let x : Sheet = sheet c.solve-region.new.tags c.solve-region.new.winners c.solve-region.new.moves in
+    let x : Sheet = sheet c.solve_region.new.tags c.solve_region.new.winners c.solve_region.new.moves in
     let u : Sheet = sheet c.attract-in-rounds.new.tags c.attract-in-rounds.new.winners c.attract-in-rounds.new.moves in
-    step_again _ (g.G.ParityGame.ranged c.args.game.now) c.args.colours c.args.bound c.if-colours-eq0.false first c.requires.1
-    a c.rounds.invariant y z c.seed.result c.seed.ensures c.attract.ensures x c.solve-region.ensures (length c.solve-region.new.winners) (omega arith)
-    (sheet c.give.new.tags c.solve-region.new.winners c.solve-region.new.moves).tag c.if-not-give.ensures u c.attract-in-rounds.ensures
+    step_again _ (g.G.ParityGame.ranged c.args.game.now) c.args.colours c.args.bound c.if-colours-eq0.false first c.requires.region
+    a c.rounds.invariant y z c.seed.result c.seed.ensures c.attract.ensures x c.solve_region.ensures (length c.solve_region.new.winners) (omega arith)
+    (sheet c.give.new.tags c.solve_region.new.winners c.solve_region.new.moves).tag c.if-not-give.ensures u c.attract-in-rounds.ensures
 
-pub solve-region-requires-2 : goal.solve-region-requires-2
-solve-region-requires-2 g t c κs within =
+pub solve_region-requires-2 : goal.solve_region-requires-2
+solve_region-requires-2 g t c κs within =
     let first : Sheet = sheet c.args.tags.now c.args.winners.now c.args.moves.now in
     let a : Sheet = sheet c.rounds.tags c.rounds.winners c.rounds.moves in
     let z : Sheet = sheet c.seed.new.tags c.seed.new.winners c.seed.new.moves in
-    let below = step_last_below _ (g.G.ParityGame.ranged c.args.game.now) c.args.colours c.args.bound c.if-colours-eq0.false first c.requires.1
+    let below = step_last_below _ (g.G.ParityGame.ranged c.args.game.now) c.args.colours c.args.bound c.if-colours-eq0.false first c.requires.region
     a c.rounds.invariant z c.rounds-test.ensures c.highest-below-2.result c.highest-below-2.ensures in
     ((let less = below.0 in omega arith), (within, (record { tags = omega arith; winners = omega arith; moves = omega arith }, below.1)))
 
@@ -66,6 +65,6 @@ returns g t c =
     let first : Sheet = sheet c.args.tags.now c.args.winners.now c.args.moves.now in
     let a : Sheet = sheet c.rounds.tags c.rounds.winners c.rounds.moves in
     let z : Sheet = sheet c.seed.new.tags c.seed.new.winners c.seed.new.moves in
-    let y : Sheet = sheet c.solve-region-2.new.tags c.solve-region-2.new.winners c.solve-region-2.new.moves in
-    step_last _ (g.G.ParityGame.ranged c.args.game.now) c.args.colours c.args.bound c.if-colours-eq0.false first c.requires.1
-    a c.rounds.invariant z c.rounds-test.ensures y c.solve-region-2.ensures
+    let y : Sheet = sheet c.solve_region-2.new.tags c.solve_region-2.new.winners c.solve_region-2.new.moves in
+    step_last _ (g.G.ParityGame.ranged c.args.game.now) c.args.colours c.args.bound c.if-colours-eq0.false first c.requires.region
+    a c.rounds.invariant z c.rounds-test.ensures y c.solve_region-2.ensures

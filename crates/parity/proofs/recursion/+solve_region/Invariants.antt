@@ -1,11 +1,11 @@
-use Rattle.std.proofs.Common.{◌+◌, ◌-◌}
+use Rattle.std.proofs.Common.{◌+◌}
 use Rattle.parity.specs.Sheets.{sheet}
 use Rattle.parity.specs.Attractors.{outside}
 use Rattle.parity.specs.Solving.{Round}
 use Rattle.parity.proofs.recursion.+solve_region.Given as goal
 
-abbrev pub decreases-solve-region : goal.decreases-solve-region
-decreases-solve-region g l = l.colours
+abbrev pub decreases-solve_region : goal.decreases-solve_region
+decreases-solve_region g l = l.colours
 
 abbrev pub invariant-rounds : goal.invariant-rounds
 invariant-rounds g l =

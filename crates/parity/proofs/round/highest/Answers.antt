@@ -1,4 +1,4 @@
-use Rattle.std.proofs.Common.{◌≡◌, ℕ, ◌+◌, ◌<◌, get_or, sym, subst, arith}
+use Rattle.std.proofs.Common.{◌≡◌, ℕ, ◌+◌, get_or, sym, subst, arith}
 use Rattle.parity.specs.Rounds.{Highest}
 use Rattle.parity.proofs.Highest.{highest_same, highest_up}
 use Rattle.parity.proofs.round.highest.Goals as goal

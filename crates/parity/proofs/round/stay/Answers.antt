@@ -1,8 +1,8 @@
-use Rattle.std.proofs.Common.{◌≡◌, ℕ, ◌^◌, ◌<◌, ◌≤◌, length, arith}
+use Rattle.std.proofs.Common.{arith}
 use Rattle.parity.proofs.round.stay.Goals as goal
 
-pub offset-bounds-tags-end : goal.offset-bounds-tags-end
-offset-bounds-tags-end g c =
+pub offset_bounds-tags-end : goal.offset_bounds-tags-end
+offset_bounds-tags-end g c =
     let r = g.G.ParityGame.ranged c.args.game.now in
     let h = r.targets c.args.position c.loop-number.number (omega arith) (omega arith) in
     omega arith
@@ -13,8 +13,8 @@ bounds-tags-end g c =
     let h = r.targets c.args.position c.loop-number.number (omega arith) (omega arith) in
     omega arith
 
-pub overflow-cast-result : goal.overflow-cast-result
-overflow-cast-result g c =
+pub overflow_cast-result : goal.overflow_cast-result
+overflow_cast-result g c =
     let r = g.G.ParityGame.ranged c.args.game.now in
     let h = r.degrees c.args.position (omega arith) in
     omega arith

@@ -1,4 +1,4 @@
-use Rattle.std.proofs.Common.{◌≡◌, ℕ, eqb, sym, ◌∙◌, arith}
+use Rattle.std.proofs.Common.{ℕ, eqb, sym, ◌∙◌, arith}
 use Rattle.std.proofs.lemmas.Bool.{eq-eqb, ne_eqb}
 use Rattle.parity.proofs.Lowest.{lowest_here, lowest_later}
 use Rattle.parity.proofs.solver.dead_end.Goals as goal

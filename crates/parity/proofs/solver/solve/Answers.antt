@@ -1,4 +1,4 @@
-use Rattle.std.proofs.Common.{◌≡◌, ◌-◌, length, get_or, ◌∙◌, arith, length-take, rules}
+use Rattle.std.proofs.Common.{◌≡◌, length, ◌∙◌, arith, length-take, rules}
 use Rattle.std.proofs.lemmas.List.{get_or_append_left}
 use Rattle.std.proofs.lemmas.Slice.{overwrites}
 use Rattle.parity.proofs.Settling.{verdict_done, has_move, same_settled, sole_winners}
@@ -7,7 +7,12 @@ use Rattle.parity.proofs.solver.solve.Goals as goal
 pub settle-requires : goal.settle-requires
 settle-requires g c =
     let b = g.G.ParityGame.board c.args.game.now in
-    (simp length-take (omega arith), simp length-take (omega arith), omega arith, has_move b c.in-default.ensures)
+    record {
+      winners_len = simp length-take (omega arith);
+      moves_len = simp length-take (omega arith);
+      enough_memory = omega arith;
+      no_dead_end = has_move b c.in_default.ensures;
+    }
 
 pub returns : goal.returns
 returns g c =
@@ -17,7 +22,7 @@ returns g c =
     let settled = same_settled b c.settle.new.winners c.settle.new.moves _ _
     (λ p lt. get_or_append_left c.settle.new.winners _ 0 p (omega arith)) (λ p lt. get_or_append_left c.settle.new.moves _ 0 p (omega arith)) c.settle.ensures in
     record {
-      answers = verdict_done b _ _ _ c.in-default.ensures (omega arith) (omega arith) (omega arith);
+      answers = verdict_done b _ _ _ c.in_default.ensures (omega arith) (omega arith) (omega arith);
       settles = settled;
       alone = sole_winners b (g.G.ParityGame.ranged c.args.game.now) _ _ settled;
       spares = (search (rules, overwrites), search (rules, overwrites));
