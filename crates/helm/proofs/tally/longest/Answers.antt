@@ -7,7 +7,7 @@ pub loop-entry-preserved : goal.loop-entry-preserved
 loop-entry-preserved c =
     let xs = c.args.waits.now in
     let i = c.loop-entry.entry-index in
-    ap (λ b. max b (longest (drop (i + 1) xs))) c.with-wait-most.ensures ∙ longest_more xs i c.loop-entry.most (omega arith) c.loop-entry.invariant
+    ap (λ b. max b (longest (drop (i + 1) xs))) c.with_wait-most.ensures ∙ longest_more xs i c.loop-entry.most (omega arith) c.loop-entry.invariant
 
 pub returns : goal.returns
 returns c = longest_all c.args.waits.now c.loop-entry.entry-index c.loop-entry.most (omega arith) c.loop-entry.invariant
