@@ -13,12 +13,12 @@ use Rattle.helm.proofs.Entries.{length_arrived}
 use Rattle.helm.proofs.Oldest.{longer, oldest, oldest_push, met_none}
 use Rattle.helm.proofs.Worst.{worst_within, worst_grows, worst_met, highest_over, highest_met, oldest_coloured, oldest_bounded}
 
-getD_arrived : (k q : ℕ) (xs : List ℕ) (i : ℕ) → i < length xs → get_or (arrived k q xs) i 0 ≡ met k (2 * i + q) (get_or xs i 0)
-getD_arrived k q [] i h = absurd (omega arith)
-getD_arrived k q (x ∷ xs) zero h = let e : q ≡ 2 * 0 + q = omega arith in ap (λ n. met k n x) e
-getD_arrived k q (x ∷ xs) (suc i) h =
+get_or_arrived : (k q : ℕ) (xs : List ℕ) (i : ℕ) → i < length xs → get_or (arrived k q xs) i 0 ≡ met k (2 * i + q) (get_or xs i 0)
+get_or_arrived k q [] i h = absurd (omega arith)
+get_or_arrived k q (x ∷ xs) zero h = let e : q ≡ 2 * 0 + q = omega arith in ap (λ n. met k n x) e
+get_or_arrived k q (x ∷ xs) (suc i) h =
     let e : 2 * i + (q + 2) ≡ 2 * suc i + q = omega arith in
-    getD_arrived k (q + 2) xs i (omega arith) ∙ ap (λ n. met k n (get_or xs i 0)) e
+    get_or_arrived k (q + 2) xs i (omega arith) ∙ ap (λ n. met k n (get_or xs i 0)) e
 
 longest_within : (B : ℕ) (xs : List ℕ) → ((i : ℕ) → i < length xs → get_or xs i 0 ≤ suc B) → longest xs ≤ B
 longest_within B [] h = omega arith
@@ -79,7 +79,7 @@ tells_begun a v xs l = record { long = length_arrived (colour_of a v) 1 (cleared
     entry i h =
         let odd : (2 * i + 1) % 2 ≡ 1 = omega arith in
         let e = wide in
-        getD_arrived (colour_of a v) 1 (cleared xs) i (omega arith)
+        get_or_arrived (colour_of a v) 1 (cleared xs) i (omega arith)
         ∙ (ap (met (colour_of a v) (2 * i + 1)) (get_or-map (λ (t : ℕ). 0) xs i 0 0 (omega arith)) ∙ met_none (colour_of a v) (2 * i + 1) odd)
 
 module _ (a : Arena) (r : Ranged a) (v : ℕ) (ms xs : List ℕ) (tells : Tells a v ms xs) where
@@ -172,4 +172,4 @@ module _ (a : Arena) (r : Ranged a) (v : ℕ) (ms xs : List ℕ) (tells : Tells 
             let wide = length-map xs (grown c) in
             let l = tells.long in
             let odd : (2 * i + 1) % 2 ≡ 1 = omega arith in
-            getD_arrived k 1 (map (grown c) xs) i (omega arith) ∙ (ap (met k (2 * i + 1)) (grown_here i (omega arith)) ∙ sym (oldest_push a (2 * i + 1) v ms m odd))
+            get_or_arrived k 1 (map (grown c) xs) i (omega arith) ∙ (ap (met k (2 * i + 1)) (grown_here i (omega arith)) ∙ sym (oldest_push a (2 * i + 1) v ms m odd))

@@ -1,5 +1,5 @@
 ghost use Rattle.std.specs.Prelude.{◌≡◌, ◌-◌, ◌≤◌, max, map, length};
-ghost use Rattle.helm.specs.Tally.{grown, met, arrived, cleared, longest as longestOf, highest_open};
+ghost use Rattle.helm.specs.Tally.{grown, met, arrived, cleared, longest as longest_of, highest_open};
 
 /// A waiting entry after a move of that cost.
 fn grow(entry: u64, cost: u32) -> u64
@@ -63,7 +63,7 @@ fn with_wait(most: u64, entry: u64) -> u64
 
 /// The greatest wait among the entries, 0 for none.
 fn longest(waits: &[u64]) -> u64
-    ensures { result ≡ longestOf waits.now }
+    ensures { result ≡ longest_of waits.now }
 {
     let mut most = 0;
     for entry in waits {
@@ -118,7 +118,7 @@ pub struct Passage {
 pub fn pass(waits: &mut [u64], cost: u32, colour: u8) -> Passage
     requires { length waits.old ≤ 127 }
     ensures after { waits.new ≡ arrived colour 1 (map (grown cost) waits.old) }
-    ensures longest { result.longest ≡ longestOf (map (grown cost) waits.old) }
+    ensures longest { result.longest ≡ longest_of (map (grown cost) waits.old) }
     ensures highest { result.highest ≡ highest_open 1 (arrived colour 1 (map (grown cost) waits.old)) }
 {
     grow_all(waits, cost);
