@@ -5,7 +5,6 @@ use Rattle.std.proofs.lemmas.Bool.{eqb-true, eqb-false}
 use Rattle.chart.specs.Refusals.{refused}
 use Rattle.drawn.specs.Rules.{blank}
 use Rattle.drawn.specs.Meaning.{sheet}
-use Rattle.text.specs.Reading.{told}
 use Rattle.text.proofs.Steps.{no_count, no_moves, from_vertices, from_moves_count, from_moves, all_read, more_left}
 use Rattle.text.proofs.reading.draw.Goals as goal
 
