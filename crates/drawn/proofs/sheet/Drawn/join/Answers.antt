@@ -54,7 +54,7 @@ invariant_of-self c =
       few = omega arith;
       ordered = join_ordered d c.args.from h _ rows;
       tinted = join_tinted d c.args.from h _ rows;
-      ranged = join_ranged d c.args.from h _ rows c.args.to c.args.cost _ c.with_move-moves.ensures.front c.if-to-count.false c.if-cost-gt-DEAREST.false;
+      ranged = join_ranged d c.args.from h _ rows _ c.args.cost _ c.with_move-moves.ensures.front (omega arith) c.if-cost-gt-DEAREST.false;
     }
 
 pub returns : goal.returns

@@ -23,8 +23,8 @@ invariant_of-self c =
       long = d.long;
       room = omega arith;
       few = d.few;
-      ordered = place_ordered d c.in-Some.player c.args.colour room;
-      tinted = place_tinted d c.in-Some.player c.args.colour room c.if-colour-gt-HIGHEST_COLOUR.false;
+      ordered = place_ordered d _ c.args.colour room;
+      tinted = place_tinted d _ c.args.colour room c.if-colour-gt-HIGHEST_COLOUR.false;
       ranged = more_vertices d.count (moves d) d.ranged;
     }
 
