@@ -20,18 +20,18 @@ module _ (d : Drawn) (from : ℕ) (h : from < d.count) where
   pub grown_total : total grown ≡ d.used + 1
   grown_total = omega (arith, total_resized (rows d) from (row d from h) ((row d from h).degree + 1) (row_is d from h), total_is d)
 
-  module _ (new-rows : List Row) (is : new-rows ≡ laid_out 0 grown) where
-    pub join_ordered : laid 0 new-rows (d.used + 1) ≡ true
+  module _ (new_rows : List Row) (is : new_rows ≡ laid_out 0 grown) where
+    pub join_ordered : laid 0 new_rows (d.used + 1) ≡ true
     join_ordered = let e : d.used + 1 ≡ 0 + total grown = omega (arith, grown_total) in ap₂ (laid 0) is e ∙ laid_out_laid 0 grown
 
-    pub join_tinted : every row_ranged new-rows ≡ true
+    pub join_tinted : every row_ranged new_rows ≡ true
     join_tinted = ap (every row_ranged) is ∙ tinted_laid_out 0 grown ∙ every_adjusted row_ranged (with_degree ((row d from h).degree + 1)) (λ r t. t) (rows d) from d.tinted
 
-    module _ (to cost : ℕ) (new-moves : List Move) (are : new-moves ≡ insert (moves d) ((row d from h).start + (row d from h).degree) (record { target = to; cost = cost })) where
-      pub join_ranged : to < d.count → cost ≤ 10000 → every (move_ranged d.count) new-moves ≡ true
+    module _ (to cost : ℕ) (new_moves : List Move) (are : new_moves ≡ insert (moves d) ((row d from h).start + (row d from h).degree) (record { target = to; cost = cost })) where
+      pub join_ranged : to < d.count → cost ≤ 10000 → every (move_ranged d.count) new_moves ≡ true
       join_ranged t c = ap (every (move_ranged d.count)) are ∙ every_inserted (move_ranged d.count) (moves d) ((row d from h).start + (row d from h).degree) (record { target = to; cost = cost }) d.ranged (move_ranged_is d.count (record { target = to; cost = cost }) t c)
 
-      pub join_sheet : ◌≡◌ {A = Arena} (record { height = 8; vertices = vertices_of new-rows new-moves }) (with_adjusted (sheet d) (with_move (record { target = to; cost = cost })) from)
+      pub join_sheet : ◌≡◌ {A = Arena} (record { height = 8; vertices = vertices_of new_rows new_moves }) (with_adjusted (sheet d) (with_move (record { target = to; cost = cost })) from)
       join_sheet =
           let m : Move = record { target = to; cost = cost } in
           ap₂ (λ rs ms. record { height = 8; vertices = vertices_of rs ms }) is are

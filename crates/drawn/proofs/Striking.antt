@@ -20,18 +20,18 @@ module _ (d : Drawn) (vertex number : ℕ) (h : vertex < d.count) (there : numbe
   pub shrunk_total : total shrunk ≡ d.used - 1
   shrunk_total = omega (arith, total_resized (rows d) vertex (row d vertex h) ((row d vertex h).degree - 1) (row_is d vertex h), total_is d)
 
-  module _ (new-rows : List Row) (is : new-rows ≡ laid_out 0 shrunk) where
-    pub strike_ordered : laid 0 new-rows (d.used - 1) ≡ true
+  module _ (new_rows : List Row) (is : new_rows ≡ laid_out 0 shrunk) where
+    pub strike_ordered : laid 0 new_rows (d.used - 1) ≡ true
     strike_ordered = let e : d.used - 1 ≡ 0 + total shrunk = omega (arith, shrunk_total) in ap₂ (laid 0) is e ∙ laid_out_laid 0 shrunk
 
-    pub strike_tinted : every row_ranged new-rows ≡ true
+    pub strike_tinted : every row_ranged new_rows ≡ true
     strike_tinted = ap (every row_ranged) is ∙ tinted_laid_out 0 shrunk ∙ every_adjusted row_ranged (with_degree ((row d vertex h).degree - 1)) (λ r t. t) (rows d) vertex d.tinted
 
-    module _ (new-moves : List Move) (are : new-moves ≡ remove (moves d) ((row d vertex h).start + number)) where
-      pub strike_ranged : every (move_ranged d.count) new-moves ≡ true
+    module _ (new_moves : List Move) (are : new_moves ≡ remove (moves d) ((row d vertex h).start + number)) where
+      pub strike_ranged : every (move_ranged d.count) new_moves ≡ true
       strike_ranged = ap (every (move_ranged d.count)) are ∙ every_removed (move_ranged d.count) (moves d) ((row d vertex h).start + number) d.ranged
 
-      pub strike_sheet : ◌≡◌ {A = Arena} (record { height = 8; vertices = vertices_of new-rows new-moves }) (with_adjusted (sheet d) (without_move number) vertex)
+      pub strike_sheet : ◌≡◌ {A = Arena} (record { height = 8; vertices = vertices_of new_rows new_moves }) (with_adjusted (sheet d) (without_move number) vertex)
       strike_sheet =
           ap₂ (λ rs ms. record { height = 8; vertices = vertices_of rs ms }) is are
           ∙ ap (λ vs. record { height = 8; vertices = vs }) (

@@ -125,9 +125,9 @@ module _ (end : Outcome Arena) (text : List ℕ) (n : ℕ) (rest : List ℕ) (co
   pub from_vertices : Reads end start (vertex_due n) 2 rest → Reads end blank count_due 1 text
   from_vertices r = next_count end blank 1 text n rest counted (rw begun at r)
 
-  module _ (a : Arena) (more : List ℕ) (placed-all : Reads end a (vertex_due zero) (2 + n) more → Reads end start (vertex_due n) 2 rest) where
+  module _ (a : Arena) (more : List ℕ) (placed_all : Reads end a (vertex_due zero) (2 + n) more → Reads end start (vertex_due n) 2 rest) where
     pub from_moves_count : Reads end a (vertex_due zero) (n + 2) more → Reads end blank count_due 1 text
-    from_moves_count r = let swap : n + 2 ≡ 2 + n = omega arith in from_vertices (placed-all (rw swap at r))
+    from_moves_count r = let swap : n + 2 ≡ 2 + n = omega arith in from_vertices (placed_all (rw swap at r))
 
     pub from_moves : (m : ℕ) (yet : List ℕ) → Counted (codes "moves=") more m yet → Reads end a (move_due m 0) (n + 2 + 1) yet → Reads end blank count_due 1 text
     from_moves m yet c r = from_moves_count (next_moves end a (n + 2) more m yet c r)

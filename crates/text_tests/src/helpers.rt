@@ -12,17 +12,23 @@ fn standing() -> Result<Drawn, Refusal> {
     Ok(chart)
 }
 
-/// Reading the text is refused with that number at that line, and leaves the chart as it stood.
-pub fn refused(rt: &impl Abort, text: &[u8], number: u8, line: usize) -> Result<(), Fail> {
+/// Reading the text is refused with that number at that line, and leaves the chart as it stood; `what` names the case.
+pub fn refused(
+    rt: &impl Abort,
+    text: &[u8],
+    number: u8,
+    line: usize,
+    what: &str,
+) -> Result<(), Fail> {
     let mut chart = standing()?;
     let Err(misread) = read(&mut chart, text) else {
-        return Err(Fail::new("the text was read"));
+        return Err(Fail::new(format_args!("{what}: the text was read")));
     };
-    assert_eq!(rt; misread.refusal.number(), number);
-    assert_eq!(rt; misread.line, line);
-    assert_eq!(rt; chart.size(), 1);
-    assert_eq!(rt; chart.colour(0), Some(3));
-    assert_eq!(rt; chart.move_count(), 1);
+    assert_eq!(rt; misread.refusal.number(), number, "{what}");
+    assert_eq!(rt; misread.line, line, "{what}");
+    assert_eq!(rt; chart.size(), 1, "{what}");
+    assert_eq!(rt; chart.colour(0), Some(3), "{what}");
+    assert_eq!(rt; chart.move_count(), 1, "{what}");
     Ok(())
 }
 

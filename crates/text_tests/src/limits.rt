@@ -39,11 +39,11 @@ fn the_fullest_chart(rt: HostRuntime) -> Result<(), Fail> {
 #[test]
 fn the_129th_vertex(rt: HostRuntime) -> Result<(), Fail> {
     let text = with_vertices(rt.alloc(), 129)?;
-    refused(&rt, text.as_slice(), 3, 130)
+    refused(&rt, text.as_slice(), 3, 130, "the 129th vertex")
 }
 
 #[test]
 fn the_1025th_move(rt: HostRuntime) -> Result<(), Fail> {
     let text = with_moves(rt.alloc(), 1025)?;
-    refused(&rt, text.as_slice(), 6, 1155)
+    refused(&rt, text.as_slice(), 6, 1155, "the 1025th move")
 }

@@ -3,8 +3,8 @@ use Rattle.drawn.specs.Readings.{no_row}
 use Rattle.drawn.specs.LaidOut.{sum_more, laid_more, laid_all, total_front}
 use Rattle.drawn.proofs.arrays.lay_out.Goals as goal
 
-pub overflow-add-next : goal.overflow-add-next
-overflow-add-next c =
+pub overflow_add-next : goal.overflow_add-next
+overflow_add-next c =
     let inv = c.loop-row.invariant in
     let rs = c.args.rows.now in
     let i = c.loop-row.row-index in

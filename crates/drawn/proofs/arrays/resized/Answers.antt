@@ -14,8 +14,8 @@ lent rows count vertex degree h l =
     let all : count - 0 ≡ count = omega arith in
     ap (λ n. take n (set rows vertex (with_degree degree (get_or rows vertex no_row)))) all ∙ take_set_adjusted (with_degree degree) count rows vertex no_row h l
 
-pub lay-out-requires : goal.lay-out-requires
-lay-out-requires c =
+pub lay_out-requires : goal.lay_out-requires
+lay_out-requires c =
     let wide : length c.args.rows ≡ 128 = search rules in
     rw (lent c.args.rows c.args.count c.args.vertex c.args.degree c.requires.within (omega (arith, c.requires.room))) c.requires.few
 
@@ -23,9 +23,9 @@ pub returns : goal.returns
 returns c =
     let wide : length c.args.rows ≡ 128 = search rules in
     let front = lent c.args.rows c.args.count c.args.vertex c.args.degree c.requires.within (omega (arith, c.requires.room)) in
-    let is : c.lay-out.new.rows ≡ laid_out 0 (adjusted (with_degree c.args.degree) (take c.args.count c.args.rows) c.args.vertex) = c.lay-out.ensures ∙ ap (laid_out 0) front in
+    let is : c.lay_out.new.rows ≡ laid_out 0 (adjusted (with_degree c.args.degree) (take c.args.count c.args.rows) c.args.vertex) = c.lay_out.ensures ∙ ap (laid_out 0) front in
     let long = ap length is ∙ length_laid_out 0 (adjusted (with_degree c.args.degree) (take c.args.count c.args.rows) c.args.vertex) ∙ length_adjusted (with_degree c.args.degree) (take c.args.count c.args.rows) c.args.vertex ∙ length-take-le c.args.count c.args.rows (omega (arith, c.requires.room)) in
     record {
-      front = take_at c.lay-out.new.rows _ c.args.count long ∙ is;
+      front = take_at c.lay_out.new.rows _ c.args.count long ∙ is;
       len = search (rules, places);
     }

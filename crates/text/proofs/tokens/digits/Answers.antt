@@ -3,15 +3,15 @@ use Rattle.std.specs.Char.{is_ascii_digit}
 use Rattle.std.proofs.lemmas.List.Sums.{prefix_len-drop_yes, prefix_len-drop_no, prefix_len-drop_all}
 use Rattle.text.proofs.tokens.digits.Goals as goal
 
-pub returns-then-not-is-ascii-digit : goal.returns-then-not-is-ascii-digit
-returns-then-not-is-ascii-digit c =
+pub returns-then-not-is_ascii_digit : goal.returns-then-not-is_ascii_digit
+returns-then-not-is_ascii_digit c =
     record {
-      run = omega (arith, prefix_len-drop_no is_ascii_digit c.args.bytes.now c.loop-i.i 0 c.loop-i-test.true (sym c.if-not-is-ascii-digit.ensures.value), c.loop-i.invariant);
+      run = omega (arith, prefix_len-drop_no is_ascii_digit c.args.bytes.now c.loop-i.i 0 c.loop-i-test.true (sym c.if-not-is_ascii_digit.ensures.value), c.loop-i.invariant);
       within = omega arith;
     }
 
 pub loop-i-preserved : goal.loop-i-preserved
-loop-i-preserved c = omega (arith, prefix_len-drop_yes is_ascii_digit c.args.bytes.now c.loop-i.i 0 c.loop-i-test.true (sym c.if-not-is-ascii-digit.ensures.value), c.loop-i.invariant)
+loop-i-preserved c = omega (arith, prefix_len-drop_yes is_ascii_digit c.args.bytes.now c.loop-i.i 0 c.loop-i-test.true (sym c.if-not-is_ascii_digit.ensures.value), c.loop-i.invariant)
 
 pub returns : goal.returns
 returns c = record { run = omega (arith, prefix_len-drop_all is_ascii_digit c.args.bytes.now c.loop-i.i (omega arith), c.loop-i.invariant); within = omega arith }

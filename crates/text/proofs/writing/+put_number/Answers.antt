@@ -11,10 +11,10 @@ returns t c =
     let exit = c.put.new.out in
     elim c.if-number-ge10.branch [
       | then-number-ge10 w ↦ record {
-        end = omega (arith, c.put.ensures.end, w.front-is, w.put-number-front.ensures.end, length_more_digits n w.if-number-ge10.true c.requires.small);
-        few = omega (arith, c.put.ensures.end, w.front-is, w.put-number-front.ensures.end, length_more_digits n w.if-number-ge10.true c.requires.small, length_short n c.requires.small);
+        end = omega (arith, c.put.ensures.end, w.front-is, w.put_number-front.ensures.end, length_more_digits n w.if-number-ge10.true c.requires.small);
+        few = omega (arith, c.put.ensures.end, w.front-is, w.put_number-front.ensures.end, length_more_digits n w.if-number-ge10.true c.requires.small, length_short n c.requires.small);
         adds = put_more_digits n c.args.at c.put.result entry exit c.requires.small c.if-number-ge10.out c.if-number-ge10.front w.if-number-ge10.true
-            (subst₂ (λ m f. Adds (decimal (n / 10)) entry c.args.at m f) (sym w.out-is) (sym w.front-is) w.put-number-front.ensures.adds)
+            (subst₂ (λ m f. Adds (decimal (n / 10)) entry c.args.at m f) (sym w.out-is) (sym w.front-is) w.put_number-front.ensures.adds)
             c.put.ensures.adds;
       }
       | else-number-ge10 w ↦ record {

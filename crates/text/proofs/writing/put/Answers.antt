@@ -6,7 +6,7 @@ pub returns-then-end-out : goal.returns-then-end-out
 returns-then-end-out c =
     record {
       end = refl;
-      adds = put_fits c.args.out.now c.args.bytes.now c.args.at c.copy-from-slice.new.self _ c.copy-from-slice.ensures.after (omega arith) c.if-end-out.true;
+      adds = put_fits c.args.out.now c.args.bytes.now c.args.at c.copy_from_slice.new.self _ c.copy_from_slice.ensures.after (omega arith) c.if-end-out.true;
     }
 
 pub returns-else-end-out : goal.returns-else-end-out

@@ -8,8 +8,8 @@ use Rattle.text.specs.Writing.{move_lines}
 use Rattle.text.proofs.Putting.{adds_same, put_vertex_moves}
 use Rattle.text.proofs.writing.put_moves.Goals as goal
 
-pub put-moves-of-at-requires : goal.put-moves-of-at-requires
-put-moves-of-at-requires c =
+pub put_moves_of-at-requires : goal.put_moves_of-at-requires
+put_moves_of-at-requires c =
     let d = c.args.chart.now in
     let room = d.room in
     let n = size_is d in
@@ -21,10 +21,10 @@ put-moves-of-at-requires c =
 pub loop-vertex-preserved : goal.loop-vertex-preserved
 loop-vertex-preserved c =
     let d = c.args.chart.now in (
-      omega (arith, c.loop-vertex.invariant.0, c.put-moves-of-at.ensures.few),
-      put_vertex_moves (sheet d).vertices c.loop-vertex.vertex (record { owner = 0; colour = 0; moves = [] }) c.args.out.now c.loop-vertex.out c.put-moves-of-at.new.out c.args.start c.loop-vertex.at c.put-moves-of-at.result
+      omega (arith, c.loop-vertex.invariant.0, c.put_moves_of-at.ensures.few),
+      put_vertex_moves (sheet d).vertices c.loop-vertex.vertex (record { owner = 0; colour = 0; moves = [] }) c.args.out.now c.loop-vertex.out c.put_moves_of-at.new.out c.args.start c.loop-vertex.at c.put_moves_of-at.result
           (omega (arith, c.loop-vertex-test.true, c.size-vertex-end.ensures))
-          c.loop-vertex.invariant.1 c.put-moves-of-at.ensures.adds,
+          c.loop-vertex.invariant.1 c.put_moves_of-at.ensures.adds,
     )
 
 pub returns : goal.returns

@@ -7,14 +7,14 @@ use Rattle.text.proofs.Absent.{vertex_small}
 use Rattle.text.proofs.Putting.{adds_same, put_more, put_all}
 use Rattle.text.proofs.writing.put_vertices.Goals as goal
 
-pub put-vertex-at-requires : goal.put-vertex-at-requires
-put-vertex-at-requires c =
+pub put_vertex-at-requires : goal.put_vertex-at-requires
+put_vertex-at-requires c =
     let d = c.args.chart.now in
     let small = vertex_small (sheet d) (sheet_ranged d) c.loop-vertex.vertex in
     let room = d.room in
     let n = size_is d in
     record {
-      small = (omega (arith, c.owner-number.ensures, small.0), omega (arith, c.colour-number.ensures, small.1));
+      small = (omega (arith, c.owner_number.ensures, small.0), omega (arith, c.colour_number.ensures, small.1));
       low = omega (arith, c.loop-vertex.invariant.0, c.loop-vertex-test.true, c.size-vertex-end.ensures, c.requires);
     }
 
@@ -22,12 +22,12 @@ pub loop-vertex-preserved : goal.loop-vertex-preserved
 loop-vertex-preserved c =
     let d = c.args.chart.now in
     let v = vertex_or_none (sheet d) c.loop-vertex.vertex in (
-      omega (arith, c.loop-vertex.invariant.0, c.put-vertex-at.ensures.few),
-      put_more (λ x. spelt (vertex_line x)) (sheet d).vertices c.loop-vertex.vertex (record { owner = 0; colour = 0; moves = [] }) c.args.out.now c.loop-vertex.out c.put-vertex-at.new.out c.args.start c.loop-vertex.at c.put-vertex-at.result
+      omega (arith, c.loop-vertex.invariant.0, c.put_vertex-at.ensures.few),
+      put_more (λ x. spelt (vertex_line x)) (sheet d).vertices c.loop-vertex.vertex (record { owner = 0; colour = 0; moves = [] }) c.args.out.now c.loop-vertex.out c.put_vertex-at.new.out c.args.start c.loop-vertex.at c.put_vertex-at.result
           (omega (arith, c.loop-vertex-test.true, c.size-vertex-end.ensures))
           c.loop-vertex.invariant.1
-          (adds_same (spelt (vertex c.owner-number.result c.colour-number.result)) (spelt (vertex_line v)) c.loop-vertex.out c.put-vertex-at.new.out c.loop-vertex.at c.put-vertex-at.result
-          (ap₂ (λ o k. spelt (vertex o k)) c.owner-number.ensures c.colour-number.ensures) c.put-vertex-at.ensures.adds),
+          (adds_same (spelt (vertex c.owner_number.result c.colour_number.result)) (spelt (vertex_line v)) c.loop-vertex.out c.put_vertex-at.new.out c.loop-vertex.at c.put_vertex-at.result
+          (ap₂ (λ o k. spelt (vertex o k)) c.owner_number.ensures c.colour_number.ensures) c.put_vertex-at.ensures.adds),
     )
 
 pub returns : goal.returns

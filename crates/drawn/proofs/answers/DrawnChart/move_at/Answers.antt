@@ -7,11 +7,11 @@ use Rattle.drawn.proofs.answers.DrawnChart.move_at.Goals as goal
 pub returns-then-vertex-self : goal.returns-then-vertex-self
 returns-then-vertex-self c = sym (ap (λ o. and_then o (λ x. slice_get x.moves c.args.number)) (past c.args.self.now c.args.vertex c.if-vertex-self.true))
 
-pub overflow-add-result : goal.overflow-add-result
-overflow-add-result c = let e = ends_in c.args.self.now c.args.vertex c.if-vertex-self.false in let few = c.args.self.now.few in omega arith
+pub overflow_add-result : goal.overflow_add-result
+overflow_add-result c = let e = ends_in c.args.self.now c.args.vertex c.if-vertex-self.false in let few = c.args.self.now.few in omega arith
 
-pub offset-bounds-self-row : goal.offset-bounds-self-row
-offset-bounds-self-row c = let e = ends_in c.args.self.now c.args.vertex c.if-vertex-self.false in let few = c.args.self.now.few in omega arith
+pub offset_bounds-self-row : goal.offset_bounds-self-row
+offset_bounds-self-row c = let e = ends_in c.args.self.now c.args.vertex c.if-vertex-self.false in let few = c.args.self.now.few in omega arith
 
 pub bounds-self-row : goal.bounds-self-row
 bounds-self-row c = let e = ends_in c.args.self.now c.args.vertex c.if-vertex-self.false in let few = c.args.self.now.few in omega arith

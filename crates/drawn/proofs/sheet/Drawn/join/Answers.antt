@@ -22,40 +22,48 @@ returns-then-cost-gt-DEAREST c =
     let n = size_is d in
     settled _ _ (with_adjusted (sheet d) (with_move (record { target = c.args.to; cost = c.args.cost })) c.args.from) (sheet d) (join_dear (sheet d) c.args.from c.args.to c.args.cost (omega arith) (omega arith) c.if-cost-gt-DEAREST.true)
 
-pub returns-then-used-ge-MOST-MOVES : goal.returns-then-used-ge-MOST-MOVES
-returns-then-used-ge-MOST-MOVES c =
+pub returns-then-used-ge-MOST_MOVES : goal.returns-then-used-ge-MOST_MOVES
+returns-then-used-ge-MOST_MOVES c =
     let d = c.args.self.now in
     let n = size_is d in
-    settled _ _ (with_adjusted (sheet d) (with_move (record { target = c.args.to; cost = c.args.cost })) c.args.from) (sheet d) (join_full (sheet d) c.args.from c.args.to c.args.cost (omega arith) (omega arith) c.if-cost-gt-DEAREST.false (omega (arith, count_is d, c.if-used-ge-MOST-MOVES.true)))
+    settled _ _ (with_adjusted (sheet d) (with_move (record { target = c.args.to; cost = c.args.cost })) c.args.from) (sheet d) (join_full (sheet d) c.args.from c.args.to c.args.cost (omega arith) (omega arith) c.if-cost-gt-DEAREST.false (omega (arith, count_is d, c.if-used-ge-MOST_MOVES.true)))
 
-pub overflow-add-row : goal.overflow-add-row
-overflow-add-row c = let e = ends_in c.args.self.now c.args.from c.if-from-count.false in let few = c.args.self.now.few in omega arith
+pub overflow_add-row : goal.overflow_add-row
+overflow_add-row c = let e = ends_in c.args.self.now c.args.from c.if-from-count.false in let few = c.args.self.now.few in omega arith
 
-pub with-move-moves-requires : goal.with-move-moves-requires
-with-move-moves-requires c = (ends_in c.args.self.now c.args.from c.if-from-count.false, c.if-used-ge-MOST-MOVES.false)
+pub with_move-moves-requires : goal.with_move-moves-requires
+with_move-moves-requires c = (ends_in c.args.self.now c.args.from c.if-from-count.false, c.if-used-ge-MOST_MOVES.false)
 
-pub overflow-add-number : goal.overflow-add-number
-overflow-add-number c = let e = ends_in c.args.self.now c.args.from c.if-from-count.false in let few = c.args.self.now.few in omega arith
+pub overflow_add-number : goal.overflow_add-number
+overflow_add-number c = let e = ends_in c.args.self.now c.args.from c.if-from-count.false in let few = c.args.self.now.few in omega arith
 
 pub resized-rows-requires : goal.resized-rows-requires
 resized-rows-requires c =
     let d = c.args.self.now in
-    record { within = c.if-from-count.false; room = d.room; few = omega (arith, grown_total d c.args.from c.if-from-count.false, c.if-used-ge-MOST-MOVES.false) }
+    record { within = c.if-from-count.false; room = d.room; few = omega (arith, grown_total d c.args.from c.if-from-count.false, c.if-used-ge-MOST_MOVES.false) }
 
-pub invariant-of-self : goal.invariant-of-self
-invariant-of-self c =
+pub invariant_of-self : goal.invariant_of-self
+invariant_of-self c =
     let d = c.args.self.now in
     let h = c.if-from-count.false in
     let rows = c.resized-rows.ensures.front in
-    (c.resized-rows.ensures.len, (c.with-move-moves.ensures.len, (d.room, (omega arith, (join_ordered d c.args.from h _ rows, (join_tinted d c.args.from h _ rows, (join_ranged d c.args.from h _ rows c.args.to c.args.cost _ c.with-move-moves.ensures.front c.if-to-count.false c.if-cost-gt-DEAREST.false, tt)))))))
+    record {
+      wide = c.resized-rows.ensures.len;
+      long = c.with_move-moves.ensures.len;
+      room = d.room;
+      few = omega arith;
+      ordered = join_ordered d c.args.from h _ rows;
+      tinted = join_tinted d c.args.from h _ rows;
+      ranged = join_ranged d c.args.from h _ rows _ c.args.cost _ c.with_move-moves.ensures.front (omega arith) c.if-cost-gt-DEAREST.false;
+    }
 
 pub returns : goal.returns
 returns c =
     let d = c.args.self.now in
     let n = size_is d in
     let h = c.if-from-count.false in
-    let e = settled _ _ (with_adjusted (sheet d) (with_move (record { target = c.args.to; cost = c.args.cost })) c.args.from) (sheet d) (join_done (sheet d) c.args.from c.args.to c.args.cost (omega arith) (omega arith) c.if-cost-gt-DEAREST.false (omega (arith, count_is d, c.if-used-ge-MOST-MOVES.false))) in
+    let e = settled _ _ (with_adjusted (sheet d) (with_move (record { target = c.args.to; cost = c.args.cost })) c.args.from) (sheet d) (join_done (sheet d) c.args.from c.args.to c.args.cost (omega arith) (omega arith) c.if-cost-gt-DEAREST.false (omega (arith, count_is d, c.if-used-ge-MOST_MOVES.false))) in
     record {
       answer = ap done (sym (degree_is d c.args.from h)) ∙ e.answer;
-      after = join_sheet d c.args.from h _ c.resized-rows.ensures.front c.args.to c.args.cost _ c.with-move-moves.ensures.front ∙ e.after;
+      after = join_sheet d c.args.from h _ c.resized-rows.ensures.front c.args.to c.args.cost _ c.with_move-moves.ensures.front ∙ e.after;
     }

@@ -8,24 +8,32 @@ use Rattle.drawn.proofs.Outcomes.{place_full, place_done, settled}
 use Rattle.drawn.proofs.Placing.{known_player, place_ordered, place_tinted, place_sheet}
 use Rattle.drawn.proofs.sheet.Drawn.place.Goals as goal
 
-pub returns-then-number-ge-MOST-VERTICES : goal.returns-then-number-ge-MOST-VERTICES
-returns-then-number-ge-MOST-VERTICES c =
+pub returns-then-number-ge-MOST_VERTICES : goal.returns-then-number-ge-MOST_VERTICES
+returns-then-number-ge-MOST_VERTICES c =
     let d = c.args.self.now in
     let owner = known_player c.args.owner c.in-Some.player c.in-Some.ensures in
-    settled _ _ (with_vertex (sheet d) (record { owner = c.args.owner; colour = c.args.colour; moves = [] })) (sheet d) (place_full (sheet d) c.args.owner c.args.colour owner.0 c.if-colour-gt-HIGHEST-COLOUR.false (omega (arith, size_is d, c.if-number-ge-MOST-VERTICES.true)))
+    settled _ _ (with_vertex (sheet d) (record { owner = c.args.owner; colour = c.args.colour; moves = [] })) (sheet d) (place_full (sheet d) c.args.owner c.args.colour owner.0 c.if-colour-gt-HIGHEST_COLOUR.false (omega (arith, size_is d, c.if-number-ge-MOST_VERTICES.true)))
 
-pub invariant-of-self : goal.invariant-of-self
-invariant-of-self c =
+pub invariant_of-self : goal.invariant_of-self
+invariant_of-self c =
     let d = c.args.self.now in
-    let room = c.if-number-ge-MOST-VERTICES.false in
-    (simp length-set d.wide, (d.long, (omega arith, (d.few, (place_ordered d c.in-Some.player c.args.colour room, (place_tinted d c.in-Some.player c.args.colour room c.if-colour-gt-HIGHEST-COLOUR.false, (more_vertices d.count (moves d) d.ranged, tt)))))))
+    let room = c.if-number-ge-MOST_VERTICES.false in
+    record {
+      wide = simp length-set d.wide;
+      long = d.long;
+      room = omega arith;
+      few = d.few;
+      ordered = place_ordered d _ c.args.colour room;
+      tinted = place_tinted d _ c.args.colour room c.if-colour-gt-HIGHEST_COLOUR.false;
+      ranged = more_vertices d.count (moves d) d.ranged;
+    }
 
 pub returns : goal.returns
 returns c =
     let d = c.args.self.now in
     let owner = known_player c.args.owner c.in-Some.player c.in-Some.ensures in
-    let room = c.if-number-ge-MOST-VERTICES.false in
-    let e = settled _ _ (with_vertex (sheet d) (record { owner = c.args.owner; colour = c.args.colour; moves = [] })) (sheet d) (place_done (sheet d) c.args.owner c.args.colour owner.0 c.if-colour-gt-HIGHEST-COLOUR.false (omega (arith, size_is d))) in
+    let room = c.if-number-ge-MOST_VERTICES.false in
+    let e = settled _ _ (with_vertex (sheet d) (record { owner = c.args.owner; colour = c.args.colour; moves = [] })) (sheet d) (place_done (sheet d) c.args.owner c.args.colour owner.0 c.if-colour-gt-HIGHEST_COLOUR.false (omega (arith, size_is d))) in
     record {
       answer = ap done (sym (size_is d)) ∙ e.answer;
       after = place_sheet d c.in-Some.player c.args.colour room c.args.owner owner.1 ∙ e.after;

@@ -16,11 +16,11 @@ returns-then-number-row c =
     let d = c.args.self.now in
     settled _ _ (with_adjusted (sheet d) (without_move c.args.number) c.args.vertex) (sheet d) (strike_none (sheet d) c.args.vertex c.args.number (omega (arith, size_is d, c.if-vertex-count.false)) (omega (arith, degree_is d c.args.vertex c.if-vertex-count.false, c.if-number-row.true)))
 
-pub overflow-add-row : goal.overflow-add-row
-overflow-add-row c = let e = ends_in c.args.self.now c.args.vertex c.if-vertex-count.false in let few = c.args.self.now.few in omega arith
+pub overflow_add-row : goal.overflow_add-row
+overflow_add-row c = let e = ends_in c.args.self.now c.args.vertex c.if-vertex-count.false in let few = c.args.self.now.few in omega arith
 
-pub without-move-moves-requires : goal.without-move-moves-requires
-without-move-moves-requires c = let e = ends_in c.args.self.now c.args.vertex c.if-vertex-count.false in (omega arith, c.args.self.now.few)
+pub without_move-moves-requires : goal.without_move-moves-requires
+without_move-moves-requires c = let e = ends_in c.args.self.now c.args.vertex c.if-vertex-count.false in (omega arith, c.args.self.now.few)
 
 pub resized-rows-requires : goal.resized-rows-requires
 resized-rows-requires c =
@@ -28,17 +28,25 @@ resized-rows-requires c =
     let few = d.few in
     record { within = c.if-vertex-count.false; room = d.room; few = omega (arith, shrunk_total d c.args.vertex c.args.number c.if-vertex-count.false c.if-number-row.false) }
 
-pub overflow-sub-self : goal.overflow-sub-self
-overflow-sub-self c = let e = ends_in c.args.self.now c.args.vertex c.if-vertex-count.false in omega arith
+pub overflow_sub-self : goal.overflow_sub-self
+overflow_sub-self c = let e = ends_in c.args.self.now c.args.vertex c.if-vertex-count.false in omega arith
 
-pub invariant-of-self : goal.invariant-of-self
-invariant-of-self c =
+pub invariant_of-self : goal.invariant_of-self
+invariant_of-self c =
     let d = c.args.self.now in
     let few = d.few in
     let h = c.if-vertex-count.false in
     let there = c.if-number-row.false in
     let rows = c.resized-rows.ensures.front in
-    (c.resized-rows.ensures.len, (c.without-move-moves.ensures.len, (d.room, (omega arith, (strike_ordered d c.args.vertex c.args.number h there _ rows, (strike_tinted d c.args.vertex c.args.number h there _ rows, (strike_ranged d c.args.vertex c.args.number h there _ rows _ c.without-move-moves.ensures.front, tt)))))))
+    record {
+      wide = c.resized-rows.ensures.len;
+      long = c.without_move-moves.ensures.len;
+      room = d.room;
+      few = omega arith;
+      ordered = strike_ordered d c.args.vertex c.args.number h there _ rows;
+      tinted = strike_tinted d c.args.vertex c.args.number h there _ rows;
+      ranged = strike_ranged d c.args.vertex c.args.number h there _ rows _ c.without_move-moves.ensures.front;
+    }
 
 pub returns : goal.returns
 returns c =
@@ -48,5 +56,5 @@ returns c =
     let e = settled _ _ (with_adjusted (sheet d) (without_move c.args.number) c.args.vertex) (sheet d) (strike_done (sheet d) c.args.vertex c.args.number (omega (arith, size_is d)) (omega (arith, degree_is d c.args.vertex h))) in
     record {
       answer = e.answer;
-      after = strike_sheet d c.args.vertex c.args.number h there _ c.resized-rows.ensures.front _ c.without-move-moves.ensures.front ∙ e.after;
+      after = strike_sheet d c.args.vertex c.args.number h there _ c.resized-rows.ensures.front _ c.without_move-moves.ensures.front ∙ e.after;
     }
