@@ -1,5 +1,5 @@
 -- What the waiting chart answers about a number, by the position that lies there.
-use Rattle.std.specs.Prelude.{◌≡◌, ℕ, zero, suc, ◌+◌, ◌*◌, ◌/◌, ◌%◌, ◌<◌, ◌≤◌, Bool, true, false, cond, ◌&&◌, ◌⊎◌, List, [], ◌∷◌, map, length, Some, None, Option, ◌==◌, ◌≢◌, nat_lt, refl}
+use Rattle.std.specs.Prelude.{◌≡◌, ℕ, zero, suc, ◌<◌, ◌≤◌, true, [], ◌∷◌, map, length, Some, None, Option, ◌==◌, ◌≢◌, nat_lt, refl}
 use Rattle.std.proofs.Common.{sym, ap, ◌∙◌, inl, inr, arith}
 use Rattle.std.specs.Option.{option_map}
 use Rattle.std.specs.List.{slice_get}
@@ -9,7 +9,7 @@ use Rattle.std.proofs.lemmas.Bool.{lt-ltb, le-ltb, eq-eqb, ne_eqb, and_from, and
 use Rattle.chart.specs.declared.parts.Move.{Move}
 use Rattle.chart.specs.Arena.{Arena, Vertex, Ranged, size, vertex_at, move_at, and_then}
 use Rattle.game.specs.Reading.{row, owner_of, colour_of, degree_of}
-use Rattle.game.specs.Waiting.{levels, arrive, toll, positions, place, vertex_in, level_in, stage_in, tint, lifted, paying, position, may_be_laid, waiting, first}
+use Rattle.game.specs.Waiting.{arrive, toll, positions, place, vertex_in, level_in, stage_in, tint, lifted, paying, position, may_be_laid, waiting, first}
 use Rattle.game.proofs.Readings.{nth_low, vertex_there, owner_is, colour_is, degree_is, target_is, target_low}
 use Rattle.game.proofs.Positions.{unlaid, waiting_size, waiting_at, waiting_past, vertex_in_low, moves_on, moves_off}
 use Rattle.waiting.specs.declared.names.Position.{Position}
