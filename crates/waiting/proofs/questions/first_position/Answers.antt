@@ -1,6 +1,6 @@
 use Rattle.std.proofs.Common.{◌≡◌, ◌+◌, ◌*◌, sym, ap, ◌∙◌, arith}
 use Rattle.game.specs.Waiting.{place, arrive}
-use Rattle.waiting.specs.Answered.{colour_known, first_there, first_absent}
+use Rattle.waiting.proofs.Answered.{colour_known, first_there, first_absent}
 use Rattle.waiting.proofs.questions.first_position.Goals as goal
 
 pub returns-in_default : goal.returns-in_default

@@ -1,6 +1,6 @@
 use Rattle.std.proofs.Common.{◌≡◌, ◌+◌, ◌*◌, ap, ◌∙◌, arith}
 use Rattle.game.specs.Waiting.{place, arrive, toll}
-use Rattle.waiting.specs.Answered.{colour_known, colour_absent, target_known, lifted_is}
+use Rattle.waiting.proofs.Answered.{colour_known, colour_absent, target_known, lifted_is}
 use Rattle.waiting.proofs.questions.lifted_move.Goals as goal
 
 pub returns-in_default-colour : goal.returns-in_default-colour

@@ -1,7 +1,7 @@
 use Rattle.std.proofs.Common.{◌/◌, ◌%◌, ◌<◌, ◌≤◌, Some, sym, ap, ◌∙◌, arith}
 use Rattle.chart.specs.Arena.{size}
 use Rattle.game.specs.Waiting.{waiting}
-use Rattle.waiting.specs.Answered.{located_there, located_past}
+use Rattle.waiting.specs.Spots.{located_there, located_past}
 use Rattle.waiting.proofs.questions.locate.Goals as goal
 
 pub returns-then-number-waiting_size : goal.returns-then-number-waiting_size

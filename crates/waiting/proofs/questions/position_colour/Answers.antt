@@ -1,6 +1,6 @@
 use Rattle.std.proofs.Common.{◌≡◌, Some, sym, ap, ◌∙◌, inl, inr, arith}
 use Rattle.std.specs.Option.{option_map}
-use Rattle.waiting.specs.Answered.{past, colour_shown, colour_given}
+use Rattle.waiting.proofs.Answered.{past, colour_shown, colour_given}
 use Rattle.waiting.proofs.questions.position_colour.Goals as goal
 
 pub returns-in_default : goal.returns-in_default

@@ -1,6 +1,6 @@
 use Rattle.std.proofs.Common.{length, sym, ap, ◌∙◌}
 use Rattle.std.specs.Option.{option_map}
-use Rattle.waiting.specs.Answered.{past, degree_on, degree_off}
+use Rattle.waiting.proofs.Answered.{past, degree_on, degree_off}
 use Rattle.waiting.proofs.questions.position_degree.Goals as goal
 
 pub returns-in_default : goal.returns-in_default

@@ -2,7 +2,7 @@ use Rattle.std.proofs.Common.{◌+◌, ◌*◌, Some, sym, ap, ◌∙◌}
 use Rattle.std.specs.List.{slice_get}
 use Rattle.chart.specs.Arena.{and_then, move_at}
 use Rattle.game.specs.Waiting.{waiting}
-use Rattle.waiting.specs.Answered.{past, move_on, move_beyond, paying_there}
+use Rattle.waiting.proofs.Answered.{past, move_on, move_beyond, paying_there}
 use Rattle.waiting.proofs.questions.position_move.Goals as goal
 
 pub returns-in_default : goal.returns-in_default

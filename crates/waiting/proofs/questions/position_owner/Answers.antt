@@ -1,6 +1,6 @@
 use Rattle.std.proofs.Common.{sym, ap, ◌∙◌}
 use Rattle.std.specs.Option.{option_map}
-use Rattle.waiting.specs.Answered.{past, owner_there}
+use Rattle.waiting.proofs.Answered.{past, owner_there}
 use Rattle.waiting.proofs.questions.position_owner.Goals as goal
 
 pub returns-in_default : goal.returns-in_default
