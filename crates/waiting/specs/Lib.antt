@@ -1,3 +1,3 @@
 pub mod Positions
+pub mod Spots
 pub mod Named
-pub mod Answered

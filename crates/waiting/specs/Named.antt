@@ -1,5 +1,5 @@
--- Numbers and names of positions lead back and forth.
-use Rattle.std.specs.Prelude.{◌≡◌, ℕ, ◌+◌, ◌*◌, ◌/◌, ◌%◌, ◌<◌, ◌≤◌, Bool, true, false, cond, ◌&&◌, ◌⊎◌, is_some, Some, None, Option, nat_lt, refl}
+-- Lemmas: numbers and names of positions lead back and forth. They stand in specs/ since a law of the layer cites them.
+use Rattle.std.specs.Prelude.{◌≡◌, ℕ, ◌/◌, ◌<◌, ◌≤◌, Bool, true, ◌&&◌, is_some, Some, None, Option, nat_lt, refl}
 use Rattle.std.proofs.Common.{sym, ap, subst, ◌∙◌, inl, inr, arith}
 use Rattle.std.proofs.Math.Nat.{mod-add-div'}
 use Rattle.std.specs.Option.{option_map}
@@ -10,7 +10,7 @@ use Rattle.game.specs.Waiting.{levels, positions, place, vertex_in, level_in, st
 use Rattle.game.proofs.Positions.{waiting_size, vertex_in_place, level_in_place, stage_in_place, place_low, vertex_in_low, level_in_low}
 use Rattle.waiting.specs.declared.names.Position.{Position}
 use Rattle.waiting.specs.Positions.{located, number_of, renamed, naming_over, finding_over}
-use Rattle.waiting.specs.Answered.{spot, there, located_there, located_past}
+use Rattle.waiting.specs.Spots.{spot, there, located_there, located_past}
 
 module _ (a : Arena) where
   -- what number_of asks of a position

@@ -1,1 +1,2 @@
 pub mod Lone
+pub mod Sound

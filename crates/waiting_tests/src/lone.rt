@@ -1,6 +1,6 @@
 ghost use Rattle.std.specs.Prelude.{◌≡◌, ◌%◌, ◌≤◌};
 ghost use Rattle.waiting_tests.specs.Lone.{lone, naught};
-ghost use Rattle.std.proofs.Common.{rules, arith};
+ghost use Rattle.waiting_tests.specs.Sound.{lone_ranged, naught_named};
 
 use chart::{Chart, Move, Player};
 
@@ -21,9 +21,9 @@ impl Chart for Lone {
 
     ghost finding = { λ _ x. naught x };
 
-    ghost ranged = { first_of (Prim.search rules, Prim.grind (arith, Self.row.coded.inj)) };
+    ghost ranged = { λ c. lone_ranged c.height c.low c.even };
 
-    ghost named = { first_of (Prim.search rules, Prim.grind (arith, Self.row.coded.inj)) };
+    ghost named = { λ _. naught_named };
 
     fn size(&self) -> usize {
         1

@@ -1,10 +1,10 @@
-use Rattle.std.proofs.Common.{◌≡◌, ℕ, ◌+◌, ◌*◌, ◌<◌, ◌≤◌, sym, ap, ◌∙◌, arith}
+use Rattle.std.proofs.Common.{◌≡◌, ◌+◌, ◌*◌, sym, ap, ◌∙◌, arith}
 use Rattle.game.specs.Waiting.{place, arrive}
-use Rattle.waiting.specs.Answered.{colour_known, first_there, first_absent}
+use Rattle.waiting.proofs.Answered.{colour_known, first_there, first_absent}
 use Rattle.waiting.proofs.questions.first_position.Goals as goal
 
-pub returns-in-default : goal.returns-in-default
-returns-in-default g c = first_absent (g.C.Chart.meaning c.args.chart.now) c.args.vertex c.in-default.ensures
+pub returns-in_default : goal.returns-in_default
+returns-in_default g c = first_absent (g.C.Chart.meaning c.args.chart.now) c.args.vertex c.in_default.ensures
 
 pub place-requires : goal.place-requires
 place-requires g c =
@@ -16,11 +16,11 @@ place-requires g c =
     let l = c.levels.ensures in
     (omega arith, omega arith)
 
-pub returns-then-may-be-laid : goal.returns-then-may-be-laid
-returns-then-may-be-laid g c =
+pub returns-then-may_be_laid : goal.returns-then-may_be_laid
+returns-then-may_be_laid g c =
     let a = g.C.Chart.meaning c.args.chart.now in
     let v = c.args.vertex in
     let k = c.in-Some.colour in
     let is : c.place.result ≡ place a v (arrive 0 k) 0 =
     c.place.ensures ∙ (ap (λ j. (v * j + c.arrive.result) * 2 + 0) c.levels.ensures ∙ ap (λ j. place a v j 0) c.arrive.ensures) in
-    first_there a v k c.place.result (sym c.if-may-be-laid.ensures) c.in-Some.ensures is
+    first_there a v k c.place.result (sym c.if-may_be_laid.ensures) c.in-Some.ensures is

@@ -1,15 +1,15 @@
-use Rattle.std.proofs.Common.{◌≡◌, ℕ, ◌+◌, ◌*◌, ◌<◌, ◌≤◌, sym, ap, ◌∙◌, arith}
+use Rattle.std.proofs.Common.{◌≡◌, ◌+◌, ◌*◌, ap, ◌∙◌, arith}
 use Rattle.game.specs.Waiting.{place, arrive, toll}
-use Rattle.waiting.specs.Answered.{colour_known, colour_absent, target_known, lifted_is}
+use Rattle.waiting.proofs.Answered.{colour_known, colour_absent, target_known, lifted_is}
 use Rattle.waiting.proofs.questions.lifted_move.Goals as goal
 
-pub returns-in-default-colour : goal.returns-in-default-colour
-returns-in-default-colour g c =
+pub returns-in_default-colour : goal.returns-in_default-colour
+returns-in_default-colour g c =
     let a = g.C.Chart.meaning c.args.chart.now in
     let x = c.args.position in
     let m = c.in-Some.step in
     let low = target_known a (g.met.C.Chart.ranged c.args.chart.now) x.below c.args.index m c.in-Some.ensures in
-    let high = colour_absent a m.target c.in-default-colour.ensures in
+    let high = colour_absent a m.target c.in_default-colour.ensures in
     absurd (omega arith)
 
 pub place-requires : goal.place-requires

@@ -3,12 +3,12 @@ use Rattle.chart.specs.Arena.{size}
 use Rattle.game.proofs.Positions.{waiting_size, unlaid}
 use Rattle.waiting.proofs.questions.waiting_size.Goals as goal
 
-pub returns-then-may-be-laid : goal.returns-then-may-be-laid
-returns-then-may-be-laid g c =
+pub returns-then-may_be_laid : goal.returns-then-may_be_laid
+returns-then-may_be_laid g c =
     let a = g.C.Chart.meaning c.args.chart.now in
-    c.positions.ensures ∙ sym (waiting_size a (sym c.if-may-be-laid.ensures))
+    c.positions.ensures ∙ sym (waiting_size a (sym c.if-may_be_laid.ensures))
 
-pub returns-else-may-be-laid : goal.returns-else-may-be-laid
-returns-else-may-be-laid g c =
+pub returns-else-may_be_laid : goal.returns-else-may_be_laid
+returns-else-may_be_laid g c =
     let a = g.C.Chart.meaning c.args.chart.now in
-    sym (ap size (unlaid a (sym c.if-may-be-laid.ensures)))
+    sym (ap size (unlaid a (sym c.if-may_be_laid.ensures)))

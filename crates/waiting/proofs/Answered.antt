@@ -1,19 +1,20 @@
 -- What the waiting chart answers about a number, by the position that lies there.
-use Rattle.std.specs.Prelude.{◌≡◌, ℕ, zero, suc, ◌+◌, ◌*◌, ◌/◌, ◌%◌, ◌<◌, ◌≤◌, Bool, true, false, cond, ◌&&◌, ◌⊎◌, List, [], ◌∷◌, map, length, Some, None, Option, ◌==◌, ◌≢◌, nat_lt, refl}
+use Rattle.std.specs.Prelude.{◌≡◌, ℕ, zero, suc, ◌<◌, ◌≤◌, true, [], ◌∷◌, map, length, Some, None, Option, ◌==◌, ◌≢◌, refl}
 use Rattle.std.proofs.Common.{sym, ap, ◌∙◌, inl, inr, arith}
 use Rattle.std.specs.Option.{option_map}
 use Rattle.std.specs.List.{slice_get}
 use Rattle.std.proofs.lemmas.List.{length-map}
 use Rattle.std.proofs.lemmas.Option.{slice_get_past}
-use Rattle.std.proofs.lemmas.Bool.{lt-ltb, le-ltb, eq-eqb, ne_eqb, and_from, and_left, and_right, cond-true, cond-false, cases_Bool, cases_lt}
+use Rattle.std.proofs.lemmas.Bool.{lt-ltb, le-ltb, eq-eqb, ne_eqb, and_from, and_right, cond-true, cond-false, cases_Bool, cases_lt}
 use Rattle.chart.specs.declared.parts.Move.{Move}
 use Rattle.chart.specs.Arena.{Arena, Vertex, Ranged, size, vertex_at, move_at, and_then}
 use Rattle.game.specs.Reading.{row, owner_of, colour_of, degree_of}
-use Rattle.game.specs.Waiting.{levels, arrive, toll, positions, place, vertex_in, level_in, stage_in, tint, lifted, paying, position, may_be_laid, waiting, first}
+use Rattle.game.specs.Waiting.{arrive, toll, positions, place, vertex_in, level_in, stage_in, tint, lifted, paying, position, may_be_laid, waiting, first}
 use Rattle.game.proofs.Readings.{nth_low, vertex_there, owner_is, colour_is, degree_is, target_is, target_low}
 use Rattle.game.proofs.Positions.{unlaid, waiting_size, waiting_at, waiting_past, vertex_in_low, moves_on, moves_off}
 use Rattle.waiting.specs.declared.names.Position.{Position}
 use Rattle.waiting.specs.Positions.{located, first_of}
+use Rattle.waiting.specs.Spots.{spot, there, located_there, located_past}
 
 tint_shown : (h k l t : ℕ) → t ≡ 0 → 0 < l → k ≡ tint h k l t
 tint_shown h k l t on up = grind arith
@@ -22,28 +23,9 @@ tint_given : (h k l t : ℕ) → (t ≡ 0 → l ≡ 0) → tint h 0 l t ≡ tint
 tint_given h k l t low = grind arith
 
 module _ (a : Arena) where
-  -- the position of a number p that is there
-  abbrev pub spot : ℕ → Position ℕ
-  spot p = record { below = vertex_in a p; level = level_in a p; stage = stage_in p }
-
-  pub there : (p : ℕ) → p < size (waiting a) → (may_be_laid a ≡ true) × (p < positions a)
-  there p h = elim (cases_Bool (may_be_laid a)) [
-    | inl ok ↦ (ok, (let n = waiting_size a ok in omega arith))
-    | inr un ↦ absurd (let n : size (waiting a) ≡ 0 = ap size (unlaid a un) in omega arith)
-  ]
-
-  pub located_there : (p : ℕ) → p < size (waiting a) → located a p ≡ Some (spot p)
-  located_there p h = let k = there p h in cond-true _ (Some (spot p)) None (and_from (may_be_laid a) _ k.0 (lt-ltb p (positions a) k.1))
-
-  pub located_past : (p : ℕ) → size (waiting a) ≤ p → located a p ≡ None
-  located_past p h = cond-false _ (Some (spot p)) None (elim (cases_Bool (may_be_laid a)) [
-    | inl ok ↦ and_right (may_be_laid a) _ (le-ltb p (positions a) (let n = waiting_size a ok in omega arith))
-    | inr un ↦ and_left (may_be_laid a) (nat_lt p (positions a)) un
-  ])
-
   pub past : (p : ℕ) → None ≡ located a p → vertex_at (waiting a) p ≡ None
   past p e = elim (cases_lt p (size (waiting a))) [
-    | inl h ↦ absurd (let f : None ≡ Some (spot p) = e ∙ located_there p h in let z : ◌≡◌ {A = ℕ} 0 1 = cc in omega arith)
+    | inl h ↦ absurd (let f : None ≡ Some (spot a p) = e ∙ located_there a p h in let z : ◌≡◌ {A = ℕ} 0 1 = cc in omega arith)
     | inr h ↦ elim (cases_Bool (may_be_laid a)) [
       | inl ok ↦ waiting_past a ok p (let n = waiting_size a ok in omega arith)
       | inr un ↦ ap (λ w. vertex_at w p) (unlaid a un)
@@ -55,17 +37,17 @@ module _ (a : Arena) where
     within : p < size (waiting a)
     within = elim (cases_lt p (size (waiting a))) [
       | inl h ↦ h
-      | inr h ↦ absurd (let f : None ≡ Some x = sym (located_past p h) ∙ sym e in let z : ◌≡◌ {A = ℕ} 0 1 = cc in omega arith)
+      | inr h ↦ absurd (let f : None ≡ Some x = sym (located_past a p h) ∙ sym e in let z : ◌≡◌ {A = ℕ} 0 1 = cc in omega arith)
     ]
 
     pub laid_there : may_be_laid a ≡ true
-    laid_there = (there p within).0
+    laid_there = (there a p within).0
 
     pub low_there : p < positions a
-    low_there = (there p within).1
+    low_there = (there a p within).1
 
-    pub is_spot : spot p ≡ x
-    is_spot = let f : Some (spot p) ≡ Some x = sym (located_there p within) ∙ sym e in cc
+    pub is_spot : spot a p ≡ x
+    is_spot = let f : Some (spot a p) ≡ Some x = sym (located_there a p within) ∙ sym e in cc
 
     pub vertex_there_low : x.below < size a
     vertex_there_low = rw (sym (ap (λ y. y.below) is_spot)) (vertex_in_low a p low_there)
