@@ -1,5 +1,5 @@
 -- What a move less does to a drawn chart.
-use Rattle.std.proofs.Common.{◌≡◌, ℕ, ◌+◌, ◌-◌, ◌<◌, true, List, ap, ◌∙◌, ap₂, arith}
+use Rattle.std.proofs.Common.{◌≡◌, ℕ, ◌+◌, ◌-◌, ◌<◌, ◌≤◌, true, List, ap, ◌∙◌, ap₂, arith}
 use Rattle.std.specs.List.{remove}
 use Rattle.chart.specs.declared.parts.Move.{Move}
 use Rattle.chart.specs.Arena.{Arena}
@@ -12,6 +12,10 @@ use Rattle.drawn.specs.LaidOut.{laid_out_laid, total_resized}
 use Rattle.drawn.specs.Vertices.{vertices_laid_out, vertices_struck}
 use Rattle.drawn.specs.Every.{every_removed, every_adjusted, tinted_laid_out}
 use Rattle.drawn.specs.Readings.{rows, moves, row, row_is, start_is, total_is, moves_length}
+
+-- as many moves at one vertex as before, or fewer
+pub cut_total : (d : Drawn) (vertex k : ℕ) (h : vertex < d.count) → k ≤ (row d vertex h).degree → total (adjusted (with_degree k) (rows d) vertex) ≤ 1024
+cut_total d vertex k h le = let few = d.few in omega (arith, total_resized (rows d) vertex (row d vertex h) k (row_is d vertex h), total_is d)
 
 module _ (d : Drawn) (vertex number : ℕ) (h : vertex < d.count) (there : number < (row d vertex h).degree) where
   abbrev shrunk : List Row

@@ -20,7 +20,7 @@ pub returns-then-cost-gt-DEAREST : goal.returns-then-cost-gt-DEAREST
 returns-then-cost-gt-DEAREST c =
     let d = c.args.self.now in
     let n = size_is d in
-    settled _ _ (with_adjusted (sheet d) (with_move (record { target = c.args.to; cost = c.args.cost })) c.args.from) (sheet d) (join_dear (sheet d) c.args.from c.args.to c.args.cost (omega arith) (omega arith) c.if-cost-gt-DEAREST.true)
+    settled _ _ (with_adjusted (sheet d) (with_move (record { target = c.args.to; cost = c.args.cost })) c.args.from) (sheet d) (join_dear (sheet d) c.args.from c.args.to c.args.cost (omega arith) (omega arith) (omega (arith, c.if-cost-gt-DEAREST.true)))
 
 pub returns-then-used-ge-MOST_MOVES : goal.returns-then-used-ge-MOST_MOVES
 returns-then-used-ge-MOST_MOVES c =
@@ -40,7 +40,7 @@ overflow_add-number c = let e = ends_in c.args.self.now c.args.from c.if-from-co
 pub resized-rows-requires : goal.resized-rows-requires
 resized-rows-requires c =
     let d = c.args.self.now in
-    record { within = c.if-from-count.false; room = d.room; few = omega (arith, grown_total d c.args.from c.if-from-count.false, c.if-used-ge-MOST_MOVES.false) }
+    record { within = omega arith; room = d.room; few = omega (arith, grown_total d c.args.from c.if-from-count.false, c.if-used-ge-MOST_MOVES.false) }
 
 pub invariant_of-self : goal.invariant_of-self
 invariant_of-self c =

@@ -3,7 +3,7 @@ use Rattle.drawn.specs.Rules.{with_adjusted, without_move}
 use Rattle.drawn.specs.Meaning.{sheet}
 use Rattle.drawn.specs.Readings.{size_is, ends_in, degree_is}
 use Rattle.drawn.proofs.Outcomes.{strike_absent, strike_none, strike_done, settled}
-use Rattle.drawn.proofs.Striking.{shrunk_total, strike_ordered, strike_tinted, strike_ranged, strike_sheet}
+use Rattle.drawn.proofs.Striking.{cut_total, strike_ordered, strike_tinted, strike_ranged, strike_sheet}
 use Rattle.drawn.proofs.sheet.Drawn.strike.Goals as goal
 
 pub returns-then-vertex-count : goal.returns-then-vertex-count
@@ -25,8 +25,7 @@ without_move-moves-requires c = let e = ends_in c.args.self.now c.args.vertex c.
 pub resized-rows-requires : goal.resized-rows-requires
 resized-rows-requires c =
     let d = c.args.self.now in
-    let few = d.few in
-    record { within = c.if-vertex-count.false; room = d.room; few = omega (arith, shrunk_total d c.args.vertex c.args.number c.if-vertex-count.false c.if-number-row.false) }
+    record { within = c.if-vertex-count.false; room = d.room; few = cut_total d c.args.vertex _ c.if-vertex-count.false (omega arith) }
 
 pub overflow_sub-self : goal.overflow_sub-self
 overflow_sub-self c = let e = ends_in c.args.self.now c.args.vertex c.if-vertex-count.false in omega arith
