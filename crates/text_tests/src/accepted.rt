@@ -3,19 +3,18 @@ use super::helpers::accepted;
 use std::test::Fail;
 
 #[test]
-fn no_vertices(rt: HostRuntime) -> Result<(), Fail> {
-    accepted(&rt, b"vertices=0\nmoves=0\n", 0, 0)
+fn no_vertices() -> Result<(), Fail> {
+    accepted(b"vertices=0\nmoves=0\n", 0, 0)
 }
 
 #[test]
-fn vertices_without_moves(rt: HostRuntime) -> Result<(), Fail> {
-    accepted(&rt, b"vertices=2\nvertex=0,8\nvertex=1,0\nmoves=0\n", 2, 0)
+fn vertices_without_moves() -> Result<(), Fail> {
+    accepted(b"vertices=2\nvertex=0,8\nvertex=1,0\nmoves=0\n", 2, 0)
 }
 
 #[test]
-fn a_gap_and_its_refill(rt: HostRuntime) -> Result<(), Fail> {
+fn a_gap_and_its_refill() -> Result<(), Fail> {
     accepted(
-        &rt,
         b"vertices=2\nvertex=0,1\nvertex=0,2\nmoves=2\nmove=0,1,3\nmove=1,0,4\n",
         2,
         2,
@@ -23,9 +22,8 @@ fn a_gap_and_its_refill(rt: HostRuntime) -> Result<(), Fail> {
 }
 
 #[test]
-fn costs_from_nothing_to_the_dearest(rt: HostRuntime) -> Result<(), Fail> {
+fn costs_from_nothing_to_the_dearest() -> Result<(), Fail> {
     accepted(
-        &rt,
         b"vertices=1\nvertex=1,7\nmoves=3\nmove=0,0,0\nmove=0,0,10000\nmove=0,0,9\n",
         1,
         3,
@@ -33,9 +31,8 @@ fn costs_from_nothing_to_the_dearest(rt: HostRuntime) -> Result<(), Fail> {
 }
 
 #[test]
-fn a_basin_with_a_harbour(rt: HostRuntime) -> Result<(), Fail> {
+fn a_basin_with_a_harbour() -> Result<(), Fail> {
     accepted(
-        &rt,
         b"vertices=3\nvertex=1,0\nvertex=0,1\nvertex=0,2\nmoves=5\nmove=0,0,5\nmove=0,1,0\nmove=1,2,7\nmove=1,0,5\nmove=2,0,5\n",
         3,
         5,

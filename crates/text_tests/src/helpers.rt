@@ -1,6 +1,6 @@
 use chart::{Chart, Refusal};
 use drawn::Drawn;
-use std::process::Abort;
+use std::fmt;
 use std::test::Fail;
 use text::{read, write};
 
@@ -12,48 +12,54 @@ fn standing() -> Result<Drawn, Refusal> {
     Ok(chart)
 }
 
+/// The two are equal; `what` names the case in which they are not.
+fn same<T: Copy + PartialEq + fmt::Debug>(got: T, wanted: T, what: &str) -> Result<(), Fail> {
+    if got == wanted {
+        Ok(())
+    } else {
+        Err(Fail::new(format_args!("{what}: {got:?} in place of {wanted:?}")))
+    }
+}
+
 /// Reading the text is refused with that number at that line, and leaves the chart as it stood; `what` names the case.
-pub fn refused(
-    rt: &impl Abort,
-    text: &[u8],
-    number: u8,
-    line: usize,
-    what: &str,
-) -> Result<(), Fail> {
+pub fn refused(text: &[u8], number: u8, line: usize, what: &str) -> Result<(), Fail> {
     let mut chart = standing()?;
     let Err(misread) = read(&mut chart, text) else {
         return Err(Fail::new(format_args!("{what}: the text was read")));
     };
-    assert_eq!(rt; misread.refusal.number(), number, "{what}");
-    assert_eq!(rt; misread.line, line, "{what}");
-    assert_eq!(rt; chart.size(), 1, "{what}");
-    assert_eq!(rt; chart.colour(0), Some(3), "{what}");
-    assert_eq!(rt; chart.move_count(), 1, "{what}");
-    Ok(())
+    same(misread.refusal.number(), number, what)?;
+    same(misread.line, line, what)?;
+    same(chart.size(), 1, what)?;
+    same(chart.colour(0), Some(3), what)?;
+    same(chart.move_count(), 1, what)
 }
 
 /// The text is read, and written back as the same bytes.
-pub fn accepted(rt: &impl Abort, text: &[u8], vertices: usize, moves: usize) -> Result<(), Fail> {
+pub fn accepted(text: &[u8], vertices: usize, moves: usize) -> Result<(), Fail> {
     let mut chart = standing()?;
     let Ok(()) = read(&mut chart, text) else {
         return Err(Fail::new("the text was refused"));
     };
-    assert_eq!(rt; chart.size(), vertices);
-    assert_eq!(rt; chart.move_count(), moves);
-    written_back(rt, &chart, text)
+    same(chart.size(), vertices, "vertices")?;
+    same(chart.move_count(), moves, "moves")?;
+    written_back(&chart, text)
 }
 
-pub fn written_back(rt: &impl Abort, chart: &Drawn, text: &[u8]) -> Result<(), Fail> {
+pub fn written_back(chart: &Drawn, text: &[u8]) -> Result<(), Fail> {
     let mut out = [7u8; 24000];
     let Ok(length) = write(chart, &mut out) else {
         return Err(Fail::new("too few bytes"));
     };
-    assert_eq!(rt; length, text.len());
-    assert!(rt; length < 24000);
-    assert_eq!(rt; out[length], 7);
+    same(length, text.len(), "bytes")?;
+    if length >= 24000 {
+        return Err(Fail::new("all bytes were written"));
+    }
+    same(out[length], 7, "the byte behind the text")?;
     for (place, byte) in text.iter().enumerate() {
-        assert!(rt; place < 24000);
-        assert_eq!(rt; out[place], *byte);
+        if place >= 24000 {
+            return Err(Fail::new("a text too long"));
+        }
+        same(out[place], *byte, "a byte of the text")?;
     }
     Ok(())
 }

@@ -33,17 +33,17 @@ fn the_fullest_chart(rt: HostRuntime) -> Result<(), Fail> {
     read(&mut chart, text.as_slice())?;
     assert_eq!(rt; chart.size(), 128);
     assert_eq!(rt; chart.degree(100), Some(1024));
-    written_back(&rt, &chart, text.as_slice())
+    written_back(&chart, text.as_slice())
 }
 
 #[test]
 fn the_129th_vertex(rt: HostRuntime) -> Result<(), Fail> {
     let text = with_vertices(rt.alloc(), 129)?;
-    refused(&rt, text.as_slice(), 3, 130, "the 129th vertex")
+    refused(text.as_slice(), 3, 130, "the 129th vertex")
 }
 
 #[test]
 fn the_1025th_move(rt: HostRuntime) -> Result<(), Fail> {
     let text = with_moves(rt.alloc(), 1025)?;
-    refused(&rt, text.as_slice(), 6, 1155, "the 1025th move")
+    refused(text.as_slice(), 6, 1155, "the 1025th move")
 }

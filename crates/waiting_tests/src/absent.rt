@@ -1,7 +1,6 @@
 // Questions about vertices, moves and names that are not there.
 use super::layers::triangle;
 use chart::Chart;
-use std::process::Abort;
 use std::test::Fail;
 use waiting::{
     Position, Waiting, find_position, locate, position_name, position_number, position_owner,
@@ -9,24 +8,25 @@ use waiting::{
 
 const FAR: usize = 18_446_744_073_709_551_615;
 
-fn about_absent_vertex<C: Chart>(rt: &impl Abort, chart: &C, vertex: usize) {
-    assert_eq!(rt; chart.owner(vertex), None);
-    assert_eq!(rt; chart.colour(vertex), None);
-    assert_eq!(rt; chart.degree(vertex), None);
-    assert_eq!(rt; chart.move_at(vertex, 0), None);
-    assert!(rt; chart.name(vertex).is_none());
+/// Each question about the vertex is answered by nothing.
+fn nothing_at<C: Chart>(chart: &C, vertex: usize) -> bool {
+    chart.owner(vertex).is_none()
+        && chart.colour(vertex).is_none()
+        && chart.degree(vertex).is_none()
+        && chart.move_at(vertex, 0).is_none()
+        && chart.name(vertex).is_none()
 }
 
 #[test]
 fn absent_vertices(rt: HostRuntime) -> Result<(), Fail> {
     let one = Waiting { below: triangle()? };
-    about_absent_vertex(&rt, &one, 30);
-    about_absent_vertex(&rt, &one, 31);
-    about_absent_vertex(&rt, &one, FAR);
+    assert!(rt; nothing_at(&one, 30));
+    assert!(rt; nothing_at(&one, 31));
+    assert!(rt; nothing_at(&one, FAR));
     let two = Waiting { below: one };
-    about_absent_vertex(&rt, &two, 360);
-    about_absent_vertex(&rt, &two, 361);
-    about_absent_vertex(&rt, &two, FAR);
+    assert!(rt; nothing_at(&two, 360));
+    assert!(rt; nothing_at(&two, 361));
+    assert!(rt; nothing_at(&two, FAR));
     Ok(())
 }
 
