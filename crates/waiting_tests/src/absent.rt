@@ -8,7 +8,7 @@ use waiting::{
 
 const FAR: usize = 18_446_744_073_709_551_615;
 
-/// No question about the vertex is answered by something.
+/// Every question about the vertex is answered by `None`.
 fn about_absent_vertex<C: Chart>(chart: &C, vertex: usize) -> Result<(), Fail> {
     if chart.owner(vertex).is_some()
         || chart.colour(vertex).is_some()
