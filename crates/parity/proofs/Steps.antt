@@ -9,7 +9,7 @@ use Rattle.parity.specs.Solving.{Region, Solved, Round}
 use Rattle.parity.proofs.Topped.{Topped, topped, topped_region}
 use Rattle.parity.proofs.Turns.{round_start, within, round_over, round_again, round_less, last_region, round_last}
 
-module _ (b : Board) (r : Ranged b) (colours bound : ℕ) (some-colour : ¬ (colours ≡ 0)) (first : Sheet) (g : Region b colours bound first) where
+module _ (b : Board) (r : Ranged b) (colours bound : ℕ) (some_colour : ¬ (colours ≡ 0)) (first : Sheet) (g : Region b colours bound first) where
   abbrev top : ℕ
   top = colours - 1
 
@@ -31,20 +31,27 @@ module _ (b : Board) (r : Ranged b) (colours bound : ℕ) (some-colour : ¬ (col
   few : colours ≡ top + 1
   few = omega arith
 
-  pub step_start : Round b theirs mark bound first first
-  step_start = round_start b r ours theirs top mark bound pair refl room first colours few g
+  -- what holds whoever the player i of the round and its opponent o are
+  pub step_start : (o : ℕ) → Round b o mark bound first first
+  step_start o = round_start b r o mark bound room first colours g
 
-  module _ (a : Sheet) (now : Round b theirs mark bound first a) where
+  module _ (i o : ℕ) (a : Sheet) (now : Round b o mark bound first a) (y z : Sheet) (some : Bool) (s : Seeded b.game top i mark b.size a y some)
+      (w : Drawn b i mark y z) where
     inner : (p : ℕ) → p < b.size → a.tag p ≤ mark → first.tag p < bound
-    inner = within b r ours theirs top mark bound pair refl room first colours few g a now
+    inner = within b r o mark bound room first colours g a now
 
+    drawn_by : Topped b i top mark a z
+    drawn_by = topped b r i top mark a y z some s w now.total
+        (λ p lt h n. (let x = g.colours p lt (inner p lt h) in let k = g.room in omega arith))
+
+    pub step_below : (c : ℕ) → Highest b.game mark b.size z.tag c → (c < colours) × Region b c mark z
+    step_below c h = topped_region b r i top mark bound colours c first a z room few g inner now.total drawn_by h
+
+  -- what rests on the player being the top colour's
+  module _ (a : Sheet) (now : Round b theirs mark bound first a) where
     module _ (y z : Sheet) (some : Bool) (s : Seeded b.game top ours mark b.size a y some) (w : Drawn b ours mark y z) where
       drawn : Topped b ours top mark a z
-      drawn = topped b r ours top mark a y z some s w now.total
-          (λ p lt h n. (let x = g.colours p lt (inner p lt h) in let k = g.room in omega arith))
-
-      pub step_below : (c : ℕ) → Highest b.game mark b.size z.tag c → (c < colours) × Region b c mark z
-      step_below c h = topped_region b r ours top mark bound colours c first a z room few g inner now.total drawn h
+      drawn = drawn_by ours theirs a now y z some s w
 
       module _ (x : Sheet) (v : Solved b mark z x) (n : ℕ) (size : n ≡ b.size) (tags : ℕ → ℕ) where
         pub step_over : Given theirs mark n x.winner x.tag tags false → Solved b bound first (record { tag = tags; winner = x.winner; move = x.move })

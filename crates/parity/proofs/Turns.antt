@@ -35,13 +35,8 @@ falls_descends b r i m t s u rank R p lt e out into f =
           ];
     }
 
-module _ (b : Board) (r : Ranged b) (i o d m bound : ℕ) (pair : i + o ≡ 1) (top : d % 2 ≡ i) (e : bound ≡ m + 2) (first : Sheet) (count : ℕ) (few : count ≡ d + 1) (g : Region b count bound first) where
-  theirs : (p : ℕ) → p < b.size → ¬ (b.game.owner p ≡ i) → b.game.owner p ≡ o
-  theirs p lt n = let x = r.owners p lt in omega arith
-
-  ours : (p : ℕ) → p < b.size → ¬ (b.game.owner p ≡ o) → b.game.owner p ≡ i
-  ours p lt n = let x = r.owners p lt in omega arith
-
+-- how the rounds begin, and what is left in the region: whoever the opponent o is
+module _ (b : Board) (r : Ranged b) (o m bound : ℕ) (e : bound ≡ m + 2) (first : Sheet) (count : ℕ) (g : Region b count bound first) where
   pub round_start : Round b o m bound first first
   round_start =
       record {
@@ -55,6 +50,16 @@ module _ (b : Board) (r : Ranged b) (i o d m bound : ℕ) (pair : i + o ≡ 1) (
         trap = λ p l lt h own k n. (let y = g.fresh _ (r.targets p l lt k) (omega arith) in omega arith);
       }
 
+  pub within : (a : Sheet) → Round b o m bound first a → (p : ℕ) → p < b.size → a.tag p ≤ m → first.tag p < bound
+  within a now p lt h = elim (cases_lt (first.tag p) bound) [ inl x ↦ x | inr x ↦ absurd (let k = (now.past p lt x).tag in omega arith) ]
+
+module _ (b : Board) (r : Ranged b) (i o d m bound : ℕ) (pair : i + o ≡ 1) (top : d % 2 ≡ i) (e : bound ≡ m + 2) (first : Sheet) (count : ℕ) (few : count ≡ d + 1) (g : Region b count bound first) where
+  theirs : (p : ℕ) → p < b.size → ¬ (b.game.owner p ≡ i) → b.game.owner p ≡ o
+  theirs p lt n = let x = r.owners p lt in omega arith
+
+  ours : (p : ℕ) → p < b.size → ¬ (b.game.owner p ≡ o) → b.game.owner p ≡ i
+  ours p lt n = let x = r.owners p lt in omega arith
+
   module _ (a : Sheet) (now : Round b o m bound first a) where
     abbrev R : ℕ → Type 0
     R = Under b.size first.tag bound
@@ -65,14 +70,11 @@ module _ (b : Board) (r : Ranged b) (i o d m bound : ℕ) (pair : i + o ≡ 1) (
     abbrev B : ℕ → Type 0
     B = Marked b.size a.tag (m + 1)
 
-    pub within : (p : ℕ) → p < b.size → a.tag p ≤ m → first.tag p < bound
-    within p lt h = elim (cases_lt (first.tag p) bound) [ inl x ↦ x | inr x ↦ absurd (let k = (now.past p lt x).tag in omega arith) ]
-
     within_gained : (p : ℕ) → p < b.size → a.tag p ≡ m + 1 → first.tag p < bound
     within_gained p lt h = elim (cases_lt (first.tag p) bound) [ inl x ↦ x | inr x ↦ absurd (let k = (now.past p lt x).tag in omega arith) ]
 
     left_in : (p : ℕ) → L p → R p
-    left_in p l = (l.0, within p l.0 (let h = l.1 in omega arith))
+    left_in p l = (l.0, within b r o m bound e first count g a now p l.0 (let h = l.1 in omega arith))
 
     sort : (p : ℕ) → R p → B p ⊎ L p
     sort p x = elim (ℕ_discrete (a.tag p) (m + 1)) [ yes h ↦ inl (x.0, h) | no h ↦ inr (x.0, (let k = now.inside p x.0 x.1 in omega arith)) ]

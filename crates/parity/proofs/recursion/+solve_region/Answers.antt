@@ -4,7 +4,7 @@ use Rattle.parity.proofs.Steps.{step_start, step_below, step_over, step_again, s
 use Rattle.parity.proofs.recursion.+solve_region.Goals as goal
 
 pub rounds-init : goal.rounds-init
-rounds-init g t c = step_start _ (g.G.ParityGame.ranged c.args.game.now) c.args.colours c.args.bound c.if-colours-eq0.false _ c.requires.region
+rounds-init g t c = step_start _ (g.G.ParityGame.ranged c.args.game.now) c.args.colours c.args.bound c.if-colours-eq0.false _ c.requires.region _
 
 pub solve_region-requires : goal.solve_region-requires
 solve_region-requires g t c κs within =
@@ -13,7 +13,7 @@ solve_region-requires g t c κs within =
     let y : Sheet = sheet c.seed.new.tags c.seed.new.winners c.seed.new.moves in
     let z : Sheet = sheet c.attract.new.tags c.attract.new.winners c.attract.new.moves in
     let below = step_below _ (g.G.ParityGame.ranged c.args.game.now) c.args.colours c.args.bound c.if-colours-eq0.false first c.requires.region
-    a c.rounds.invariant y z c.seed.result c.seed.ensures c.attract.ensures c.highest-below.result c.highest-below.ensures in
+    _ _ a c.rounds.invariant y z c.seed.result c.seed.ensures c.attract.ensures c.highest-below.result c.highest-below.ensures in
     ((let less = below.0 in omega arith), (within, (record { tags = omega arith; winners = omega arith; moves = omega arith }, below.1)))
 
 pub returns-then-not-give : goal.returns-then-not-give
