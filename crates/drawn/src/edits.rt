@@ -19,8 +19,8 @@ impl Drawn {
             colour: 0,
             start: 0,
             degree: 0,
-        }; 128];
-        let moves = [Move { target: 0, cost: 0 }; 1024];
+        }; MOST_VERTICES];
+        let moves = [Move { target: 0, cost: 0 }; MOST_MOVES];
         Drawn {
             count: 0,
             used: 0,
@@ -67,7 +67,8 @@ impl Drawn {
     {
         let count = self.count;
         let used = self.used;
-        if from >= count || to >= count {
+        let row = self.row(from).ok_or(Refusal::AbsentVertex)?;
+        if to >= count {
             return Err(Refusal::AbsentVertex);
         }
         if cost > DEAREST {
@@ -76,7 +77,6 @@ impl Drawn {
         if used >= MOST_MOVES {
             return Err(Refusal::TooManyMoves);
         }
-        let row = self.rows[from];
         let number = row.degree;
         let moves = with_move(
             self.moves,
@@ -101,10 +101,7 @@ impl Drawn {
     {
         let count = self.count;
         let used = self.used;
-        if vertex >= count {
-            return Err(Refusal::AbsentVertex);
-        }
-        let row = self.rows[vertex];
+        let row = self.row(vertex).ok_or(Refusal::AbsentVertex)?;
         if number >= row.degree {
             return Err(Refusal::AbsentMove);
         }

@@ -4,8 +4,8 @@ use Rattle.drawn.specs.declared.row.Row.{Row}
 use Rattle.drawn.specs.Rows.{laid_out, with_degree}
 use Rattle.drawn.specs.Rules.{adjusted}
 use Rattle.drawn.proofs.Adjusted.{take_set_adjusted, length_adjusted}
-use Rattle.drawn.specs.Readings.{no_row}
-use Rattle.drawn.specs.LaidOut.{length_laid_out}
+use Rattle.drawn.proofs.Standing.{no_row}
+use Rattle.drawn.proofs.LaidOut.{length_laid_out}
 use Rattle.drawn.proofs.arrays.resized.Goals as goal
 
 -- what is lent to lay_out

@@ -7,6 +7,6 @@ pub returns : goal.returns
 returns c =
     let long : length c.args.moves ≡ 1024 = search rules in
     record {
-      front = rotated_right c.args.moves c.rotate_right.new.self c.args.used c.args.at c.args.one c.requires.0 (omega arith) _ refl c.rotate_right.ensures.after;
+      front = rotated_right c.args.moves c.rotate_right.new.self c.args.used c.args.at c.args.one c.requires.within (omega arith) _ refl c.rotate_right.ensures.after;
       len = search (rules, places);
     }

@@ -7,6 +7,6 @@ pub returns : goal.returns
 returns c =
     let long : length c.args.moves ≡ 1024 = search rules in
     record {
-      front = rotated_left c.args.moves c.rotate_left.new.self c.args.used c.args.at c.requires.0 (omega arith) c.rotate_left.ensures.after;
+      front = rotated_left c.args.moves c.rotate_left.new.self c.args.used c.args.at c.requires.within (omega arith) c.rotate_left.ensures.after;
       len = search (rules, places);
     }

@@ -1,9 +1,9 @@
 use Rattle.std.proofs.Common.{[], sym, ap, ◌∙◌, arith, length-set}
 use Rattle.chart.specs.Refusals.{done}
 use Rattle.drawn.specs.Rules.{with_vertex}
-use Rattle.drawn.specs.Meaning.{sheet}
-use Rattle.drawn.specs.Every.{more_vertices}
-use Rattle.drawn.specs.Readings.{moves, size_is}
+use Rattle.drawn.specs.Meaning.{moves, sheet}
+use Rattle.drawn.proofs.Ranges.{more_vertices}
+use Rattle.drawn.specs.Readings.{size_is}
 use Rattle.drawn.proofs.Outcomes.{place_full, place_done, settled}
 use Rattle.drawn.proofs.Placing.{known_player, place_ordered, place_tinted, place_sheet}
 use Rattle.drawn.proofs.sheet.Drawn.place.Goals as goal
