@@ -10,12 +10,12 @@ use Rattle.chart.specs.declared.parts.Move.{Move}
 use Rattle.game.specs.Reading.{no_move, no_vertex, row, owner_of, colour_of, degree_of, target_of, cost_of}
 
 pub get_or_nth : {A : Type 0} (xs : List A) (i : ℕ) (x d : A) → slice_get xs i ≡ Some x → get_or xs i d ≡ x
-get_or_nth [] i x d e = absurd (let z : ◌≡◌ {A = ℕ} 0 1 = cc in omega arith)
+get_or_nth [] i x d e = cc
 get_or_nth (y ∷ xs) zero x d e = cc
 get_or_nth (y ∷ xs) (suc i) x d e = get_or_nth xs i x d e
 
 pub nth_low : {A : Type 0} (xs : List A) (i : ℕ) (x : A) → slice_get xs i ≡ Some x → i < length xs
-nth_low [] i x e = absurd (let z : ◌≡◌ {A = ℕ} 0 1 = cc in omega arith)
+nth_low [] i x e = cc
 nth_low (y ∷ xs) zero x e = omega arith
 nth_low (y ∷ xs) (suc i) x e = let h = nth_low xs i x e in omega arith
 
