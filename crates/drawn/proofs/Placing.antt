@@ -1,10 +1,10 @@
 -- What a vertex more does to a drawn chart.
-use Rattle.std.proofs.Common.{◌≡◌, ℕ, ◌+◌, ◌<◌, ◌≤◌, true, cond, leb, [], ◌∷◌, ◌++◌, take, set, Some, None, refl, ap, ◌∙◌, inl, inr, arith}
+use Rattle.std.proofs.Common.{◌≡◌, ℕ, ◌+◌, ◌<◌, ◌≤◌, true, [], ◌∷◌, ◌++◌, take, set, refl, ap, ◌∙◌, arith}
 use Rattle.std.specs.Bool.{IsTrue}
 use Rattle.std.specs.List.{All}
 use Rattle.std.proofs.lemmas.List.{take_more_set}
 use Rattle.std.proofs.lemmas.List.Elements.{All-push}
-use Rattle.std.proofs.lemmas.Bool.{le-leb, lt-leb, cases_lt}
+use Rattle.std.proofs.lemmas.Bool.{le-leb}
 use Rattle.chart.specs.declared.parts.Player.{Player}
 use Rattle.chart.specs.Arena.{Arena}
 use Rattle.chart.specs.Players.{numbered}
@@ -15,13 +15,6 @@ use Rattle.drawn.specs.Rules.{with_vertex}
 use Rattle.drawn.specs.Meaning.{rows, moves, sheet}
 use Rattle.drawn.proofs.LaidOut.{laid_push}
 use Rattle.drawn.proofs.Vertices.{vertices_push}
-
--- a number that names a player
-pub known_player : (number : ℕ) (player : Player) → Some (numbered player) ≡ cond (leb number 1) (Some number) None → (number ≤ 1) × (numbered player ≡ number)
-known_player number player e = elim (cases_lt 1 number) [
-  | inl h ↦ let f : Some (numbered player) ≡ None = e ∙ ap (λ b. cond b (Some number) None) (lt-leb number 1 h) in cc
-  | inr h ↦ (h, let f : Some (numbered player) ≡ Some number = e ∙ ap (λ b. cond b (Some number) None) (le-leb number 1 h) in cc)
-]
 
 module _ (d : Drawn) (player : Player) (colour : ℕ) (room : d.count < 128) where
   abbrev new_row : Row

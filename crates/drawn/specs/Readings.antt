@@ -21,7 +21,7 @@ pub length_vertices : (rs : List Row) (ms : List Move) → length (vertices_of r
 length_vertices [] ms = refl
 length_vertices (r ∷ rs) ms = omega (arith, length_vertices rs (drop r.degree ms))
 
-owner_low : (p : Player) → numbered p ≤ 1
+pub owner_low : (p : Player) → numbered p ≤ 1
 owner_low Controller = omega arith
 owner_low Harbour = omega arith
 

@@ -34,9 +34,7 @@ impl Drawn {
         ensures answer { outcome result ≡ place_outcome (sheet self.old) owner colour }
         ensures after { sheet self.new ≡ placed (sheet self.old) owner colour }
     {
-        let Some(player) = Player::from_number(owner) else {
-            return Err(Refusal::UnknownOwner);
-        };
+        let player = Player::try_from(owner)?;
         if colour > HIGHEST_COLOUR {
             return Err(Refusal::ColourTooHigh);
         }
