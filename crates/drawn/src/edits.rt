@@ -29,7 +29,8 @@ impl Drawn {
         }
     }
 
-    /// Adds a vertex without moves and answers its number.
+    /// Adds a vertex without moves and answers its number. Refuses an owner above 1, then a colour
+    /// above 8, then a 129th vertex; what it refuses leaves the chart as it stood.
     pub fn place(&mut self, owner: u32, colour: u32) -> Result<usize, Refusal>
         ensures answer { outcome result ≡ place_outcome (sheet self.old) owner colour }
         ensures after { sheet self.new ≡ placed (sheet self.old) owner colour }
@@ -58,7 +59,8 @@ impl Drawn {
         Ok(number)
     }
 
-    /// Adds a last move at `from` and answers its number there.
+    /// Adds a last move at `from`, of so many metres of tow, and answers its number there. Refuses an
+    /// absent vertex at either end, then a cost above 10,000, then a 1,025th move.
     pub fn join(&mut self, from: usize, to: usize, cost: u32) -> Result<usize, Refusal>
         ensures answer { outcome result ≡ join_outcome (sheet self.old) from to cost }
         ensures after { sheet self.new ≡ joined (sheet self.old) from to cost }
@@ -92,7 +94,8 @@ impl Drawn {
         Ok(number)
     }
 
-    /// Takes a move out; later ones at the vertex go down by one.
+    /// Takes a move out; later ones at the vertex go down by one. Refuses an absent vertex, then an
+    /// absent move.
     pub fn strike(&mut self, vertex: usize, number: usize) -> Result<(), Refusal>
         ensures answer { outcome result ≡ strike_outcome (sheet self.old) vertex number }
         ensures after { sheet self.new ≡ struck (sheet self.old) vertex number }

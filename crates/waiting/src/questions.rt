@@ -31,8 +31,8 @@ pub fn may_be_laid<C: Chart>(chart: &C) -> bool
     positions(chart) <= MOST_POSITIONS && chart.height() <= HIGHEST_BELOW
 }
 
-/// The number of vertices of the waiting chart.
-#[tactic(auto, using(game::proofs::Positions::waiting_size, game::proofs::Positions::unlaid))]
+/// The number of vertices of the waiting chart: 0 where it may not be laid.
+#[tactic(auto, using(game::proofs::Positions::waiting_size_is))]
 pub fn waiting_size<C: Chart>(chart: &C) -> usize
     ensures { result ≡ size (waiting (C.Chart.meaning chart.now)) }
 {
@@ -43,8 +43,8 @@ pub fn waiting_size<C: Chart>(chart: &C) -> usize
     }
 }
 
-/// The height of the waiting chart.
-#[tactic(auto, using(game::proofs::Positions::waiting_height, game::proofs::Positions::unlaid))]
+/// The height of the waiting chart: 0 where it may not be laid.
+#[tactic(auto, using(game::proofs::Positions::waiting_height_is))]
 pub fn waiting_height<C: Chart>(chart: &C) -> u8
     ensures { result ≡ (waiting (C.Chart.meaning chart.now)).height }
 {
@@ -55,7 +55,7 @@ pub fn waiting_height<C: Chart>(chart: &C) -> u8
     }
 }
 
-/// The vertex, the level and the stage of the position of a number.
+/// The vertex, the level and the stage of the position of a number, if there is one.
 #[tactic(auto, using(crate::specs::Spots::located_there, crate::specs::Spots::located_past))]
 pub fn locate<C: Chart>(chart: &C, number: usize) -> Option<Position<usize>>
     ensures { result ≡ located (C.Chart.meaning chart.now) number }
@@ -70,7 +70,7 @@ pub fn locate<C: Chart>(chart: &C, number: usize) -> Option<Position<usize>>
     (number < waiting_size(chart)).then_some(position)
 }
 
-/// The number of the position of a vertex, a level and a stage.
+/// The number of the position of a vertex, a level and a stage, if there is one.
 pub fn position_number<C: Chart>(chart: &C, position: Position<usize>) -> Option<usize>
     ensures { result ≡ number_of (C.Chart.meaning chart.now) position }
 {
@@ -81,7 +81,7 @@ pub fn position_number<C: Chart>(chart: &C, position: Position<usize>) -> Option
     (may_be_laid(chart) && within).then(|| place(levels, position))
 }
 
-/// The position at which a voyage from the vertex begins.
+/// The position at which a voyage from the vertex begins, if there is one.
 #[tactic(auto, using(crate::proofs::Answered::first_is, crate::proofs::Answered::colour_known))]
 pub fn first_position<C: Chart>(chart: &C, vertex: usize) -> Option<usize>
     ensures { result ≡ first_of (C.Chart.meaning chart.now) vertex }
@@ -105,7 +105,7 @@ pub fn position_owner<C: Chart>(chart: &C, number: usize) -> Option<Player>
 
 /// The colour of the position: its vertex's where something waits and nothing is paid, else one
 /// that the height gives.
-#[tactic(auto, using(crate::proofs::Answered::past, crate::proofs::Answered::colour_shown, crate::proofs::Answered::colour_given))]
+#[tactic(auto, using(crate::proofs::Answered::past, crate::proofs::Answered::colour_given))]
 pub fn position_colour<C: Chart>(chart: &C, number: usize) -> Option<u8>
     ensures { result ≡ option_map (λ v. v.colour) (vertex_at (waiting (C.Chart.meaning chart.now)) number) }
 {

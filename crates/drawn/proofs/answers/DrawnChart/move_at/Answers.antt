@@ -8,24 +8,24 @@ use Rattle.drawn.proofs.answers.DrawnChart.move_at.Goals as goal
 
 pub returns-in_err-row : goal.returns-in_err-row
 returns-in_err-row c =
-    let none : slice_get (rows c.args.self.now) c.args.vertex ≡ None = sym c.row.ensures ∙ c.in_err-row.was in
+    let none : slice_get (rows c.args.self.now) c.args.vertex ≡ None = sym c.in_err-row.ensures in
     c.from_residual.ensures ∙ sym (move_absent c.args.self.now c.args.vertex none c.args.number)
 
 pub overflow_add-row : goal.overflow_add-row
 overflow_add-row c =
-    let e = ends_in c.args.self.now c.args.vertex c.in_ok-row.row (sym c.row.ensures ∙ c.in_ok-row.was) in
+    let e = ends_in c.args.self.now c.args.vertex c.in_ok-row.row (sym c.in_ok-row.ensures) in
     let few = c.args.self.now.few in
     omega arith
 
 pub offset_bounds-self-row : goal.offset_bounds-self-row
 offset_bounds-self-row c =
-    let e = ends_in c.args.self.now c.args.vertex c.in_ok-row.row (sym c.row.ensures ∙ c.in_ok-row.was) in
+    let e = ends_in c.args.self.now c.args.vertex c.in_ok-row.row (sym c.in_ok-row.ensures) in
     let few = c.args.self.now.few in
     omega arith
 
 pub slice_bounds-get-end : goal.slice_bounds-get-end
 slice_bounds-get-end c =
-    let e = ends_in c.args.self.now c.args.vertex c.in_ok-row.row (sym c.row.ensures ∙ c.in_ok-row.was) in
+    let e = ends_in c.args.self.now c.args.vertex c.in_ok-row.row (sym c.in_ok-row.ensures) in
     let few = c.args.self.now.few in
     omega arith
 
@@ -33,7 +33,7 @@ pub returns : goal.returns
 returns c =
     let d = c.args.self.now in
     let r = c.in_ok-row.row in
-    let at : slice_get (rows d) c.args.vertex ≡ Some r = sym c.row.ensures ∙ c.in_ok-row.was in
+    let at : slice_get (rows d) c.args.vertex ≡ Some r = sym c.in_ok-row.ensures in
     let long : r.start + r.degree - r.start ≡ r.degree = omega arith in
     let read : c.copied.result ≡ slice_get (take (r.start + r.degree - r.start) (drop r.start d.moves)) c.args.number = grind (arith, common_steps, gets) in
     read
