@@ -1,5 +1,6 @@
 ghost use Rattle.std.specs.Prelude.{◌≡◌};
 ghost use Rattle.std.specs.List.{slice_get};
+ghost use Rattle.std.specs.Option.{option_map};
 ghost use Rattle.chart.specs.Arena.{size};
 ghost use Rattle.drawn.specs.Rules.{move_count};
 ghost use Rattle.drawn.specs.Meaning.{rows, sheet, itself};
@@ -20,10 +21,10 @@ impl Drawn {
     }
 
     /// The row of a vertex, if the vertex is there.
-    pub(crate) fn row(&self, vertex: usize) -> Option<Row>
-        ensures { result ≡ slice_get (rows self.now) vertex }
+    pub(crate) fn row(&self, vertex: usize) -> Option<&Row>
+        ensures { option_map (λ r. r.now) result ≡ slice_get (rows self.now) vertex }
     {
-        self.rows[..self.count].get(vertex).copied()
+        self.rows[..self.count].get(vertex)
     }
 }
 

@@ -13,26 +13,26 @@ returns-in_err-row c =
 
 pub overflow_add-row : goal.overflow_add-row
 overflow_add-row c =
-    let e = ends_in c.args.self.now c.args.vertex c.in_ok-row.row (sym c.in_ok-row.ensures) in
+    let e = ends_in c.args.self.now c.args.vertex c.in_ok-row.row.now (sym c.in_ok-row.ensures) in
     let few = c.args.self.now.few in
     omega arith
 
 pub offset_bounds-self-row : goal.offset_bounds-self-row
 offset_bounds-self-row c =
-    let e = ends_in c.args.self.now c.args.vertex c.in_ok-row.row (sym c.in_ok-row.ensures) in
+    let e = ends_in c.args.self.now c.args.vertex c.in_ok-row.row.now (sym c.in_ok-row.ensures) in
     let few = c.args.self.now.few in
     omega arith
 
 pub slice_bounds-get-end : goal.slice_bounds-get-end
 slice_bounds-get-end c =
-    let e = ends_in c.args.self.now c.args.vertex c.in_ok-row.row (sym c.in_ok-row.ensures) in
+    let e = ends_in c.args.self.now c.args.vertex c.in_ok-row.row.now (sym c.in_ok-row.ensures) in
     let few = c.args.self.now.few in
     omega arith
 
 pub returns : goal.returns
 returns c =
     let d = c.args.self.now in
-    let r = c.in_ok-row.row in
+    let r = c.in_ok-row.row.now in
     let at : slice_get (rows d) c.args.vertex ≡ Some r = sym c.in_ok-row.ensures in
     let long : r.start + r.degree - r.start ≡ r.degree = omega arith in
     let read : c.copied.result ≡ slice_get (take (r.start + r.degree - r.start) (drop r.start d.moves)) c.args.number = grind (arith, common_steps, gets) in
