@@ -62,12 +62,11 @@ pub fn locate<C: Chart>(chart: &C, number: usize) -> Option<Position<usize>>
 {
     let levels = levels(chart);
     let pair = number / 2;
-    let position = Position {
+    (number < waiting_size(chart)).then(|| Position {
         below: pair / levels,
         level: (pair % levels) as u8,
         stage: (number % 2) as u8,
-    };
-    (number < waiting_size(chart)).then_some(position)
+    })
 }
 
 /// The number of the position of a vertex, a level and a stage, if there is one.
