@@ -1,3 +1,7 @@
+pub mod LaidOut
+pub mod Vertices
+pub mod Ranges
+pub mod Standing
 pub mod Shifts
 pub mod Adjusted
 pub mod Outcomes

@@ -1,26 +1,20 @@
 -- What a vertex more does to a drawn chart.
-use Rattle.std.proofs.Common.{◌≡◌, ℕ, ◌+◌, ◌<◌, ◌≤◌, true, cond, leb, [], ◌∷◌, ◌++◌, take, set, Some, None, refl, ap, ◌∙◌, inl, inr, arith}
+use Rattle.std.proofs.Common.{◌≡◌, ℕ, ◌+◌, ◌<◌, ◌≤◌, true, [], ◌∷◌, ◌++◌, take, set, refl, ap, ◌∙◌, arith}
+use Rattle.std.specs.Bool.{IsTrue}
+use Rattle.std.specs.List.{All}
 use Rattle.std.proofs.lemmas.List.{take_more_set}
-use Rattle.std.proofs.lemmas.Bool.{le-leb, lt-leb, cases_lt}
+use Rattle.std.proofs.lemmas.List.Elements.{All-push}
+use Rattle.std.proofs.lemmas.Bool.{le-leb}
 use Rattle.chart.specs.declared.parts.Player.{Player}
 use Rattle.chart.specs.Arena.{Arena}
 use Rattle.chart.specs.Players.{numbered}
 use Rattle.drawn.specs.declared.row.Row.{Row}
 use Rattle.drawn.specs.declared.sheet.Drawn.{Drawn}
-use Rattle.drawn.specs.Rows.{laid, every, row_ranged, vertices_of}
+use Rattle.drawn.specs.Rows.{laid, row_ranged, vertices_of}
 use Rattle.drawn.specs.Rules.{with_vertex}
-use Rattle.drawn.specs.Meaning.{sheet}
-use Rattle.drawn.specs.LaidOut.{laid_push}
-use Rattle.drawn.specs.Vertices.{vertices_push}
-use Rattle.drawn.specs.Every.{every_push}
-use Rattle.drawn.specs.Readings.{rows, moves}
-
--- a number that names a player
-pub known_player : (number : ℕ) (player : Player) → Some (numbered player) ≡ cond (leb number 1) (Some number) None → (number ≤ 1) × (numbered player ≡ number)
-known_player number player e = elim (cases_lt 1 number) [
-  | inl h ↦ absurd (let f : Some (numbered player) ≡ None = e ∙ ap (λ b. cond b (Some number) None) (lt-leb number 1 h) in let z : ◌≡◌ {A = ℕ} 0 1 = cc in omega arith)
-  | inr h ↦ (h, let f : Some (numbered player) ≡ Some number = e ∙ ap (λ b. cond b (Some number) None) (le-leb number 1 h) in cc)
-]
+use Rattle.drawn.specs.Meaning.{rows, moves, sheet}
+use Rattle.drawn.proofs.LaidOut.{laid_push}
+use Rattle.drawn.proofs.Vertices.{vertices_push}
 
 module _ (d : Drawn) (player : Player) (colour : ℕ) (room : d.count < 128) where
   abbrev new_row : Row
@@ -32,8 +26,8 @@ module _ (d : Drawn) (player : Player) (colour : ℕ) (room : d.count < 128) whe
   pub place_ordered : laid 0 (take (d.count + 1) (set d.rows d.count new_row)) d.used ≡ true
   place_ordered = ap (λ rs. laid 0 rs d.used) more_rows ∙ laid_push 0 (rows d) d.used new_row d.ordered refl refl
 
-  pub place_tinted : colour ≤ 8 → every row_ranged (take (d.count + 1) (set d.rows d.count new_row)) ≡ true
-  place_tinted low = ap (every row_ranged) more_rows ∙ every_push row_ranged (rows d) new_row d.tinted (le-leb colour 8 low)
+  pub place_tinted : colour ≤ 8 → All (λ r. IsTrue (row_ranged r)) (take (d.count + 1) (set d.rows d.count new_row))
+  place_tinted low = rw more_rows (All-push (λ r. IsTrue (row_ranged r)) (rows d) new_row d.tinted (le-leb colour 8 low))
 
   pub place_sheet : (owner : ℕ) → numbered player ≡ owner →
       ◌≡◌ {A = Arena} (record { height = 8; vertices = vertices_of (take (d.count + 1) (set d.rows d.count new_row)) (moves d) }) (with_vertex (sheet d) (record { owner = owner; colour = colour; moves = [] }))

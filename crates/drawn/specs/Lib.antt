@@ -2,6 +2,3 @@ pub mod Rules
 pub mod Rows
 pub mod Meaning
 pub mod Readings
-pub mod LaidOut
-pub mod Vertices
-pub mod Every

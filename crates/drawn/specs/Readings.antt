@@ -1,97 +1,65 @@
--- What stands in the arrays of a drawn chart, read as its meaning.
-use Rattle.std.specs.Prelude.{◌≡◌, ℕ, ◌+◌, ◌<◌, ◌≤◌, cond, List, length, take, drop, is_some as option_is_some, Some, None, nat_lt, slice_index_or, refl}
-use Rattle.std.proofs.Common.{sym, ap, ◌∙◌, arith, zero-add, length-drop, length-take-le, get_or-take, get_or-drop, inl, inr}
-use Rattle.std.specs.List.{slice_get}
-use Rattle.std.proofs.lemmas.Option.{slice_get-get_or, slice_get_past}
-use Rattle.std.proofs.lemmas.Bool.{lt-ltb, le-ltb, cases_lt}
+-- Lemmas: a drawn chart keeps to the ranges of a chart, and numbers name its vertices. They stand in specs/ since laws of a chart cite them.
+use Rattle.std.specs.Prelude.{◌≡◌, ℕ, ◌<◌, ◌≤◌, cond, List, [], ◌∷◌, length, drop, is_some as option_is_some, Some, None, nat_le, nat_lt, refl}
+use Rattle.std.proofs.Common.{sym, ap, ◌∙◌, arith, length-drop, length-take-le, inl, inr}
+use Rattle.std.specs.Bool.{IsTrue}
+use Rattle.std.specs.List.{All, AllByRecursion}
+use Rattle.std.proofs.lemmas.Bool.{and_parts, leb-true, ltb-true, lt-ltb, le-ltb, cases_lt}
+use Rattle.std.proofs.lemmas.List.{length-take}
+use Rattle.std.proofs.lemmas.List.Elements.{All-head, All-tail, All-take, All-drop, All-weaker, recursion_from_All}
 use Rattle.chart.specs.declared.parts.Move.{Move}
-use Rattle.chart.specs.declared.parts.Player.TheVariants.{Controller}
-use Rattle.chart.specs.Arena.{Ranged, size, vertex_at, move_at, and_then}
+use Rattle.chart.specs.declared.parts.Player.{Player}
+use Rattle.chart.specs.declared.parts.Player.TheVariants.{Controller, Harbour}
+use Rattle.chart.specs.Arena.{RangedMove, RangedVertex, Ranged, size}
 use Rattle.chart.specs.Names.{Naming}
+use Rattle.chart.specs.Players.{numbered}
 use Rattle.drawn.specs.declared.row.Row.{Row}
 use Rattle.drawn.specs.declared.sheet.Drawn.{Drawn}
-use Rattle.drawn.specs.Rows.{total}
-use Rattle.drawn.specs.Rules.{move_count, degree_at, degree_or_none}
-use Rattle.drawn.specs.Meaning.{sheet, itself}
-use Rattle.drawn.specs.LaidOut.{laid_end, laid_start}
-use Rattle.drawn.specs.Vertices.{vertex_with, length_vertices, count_vertices, nth_vertices, ends_within}
-use Rattle.drawn.specs.Every.{vertices_ranged}
+use Rattle.drawn.specs.Rows.{vertices_of, row_ranged, move_ranged}
+use Rattle.drawn.specs.Meaning.{rows, moves, sheet, itself}
 
--- what an array is read at past its end
-abbrev pub no_row : Row
-no_row = record { owner = Controller; colour = 0; start = 0; degree = 0 }
+pub length_vertices : (rs : List Row) (ms : List Move) → length (vertices_of rs ms) ≡ length rs
+length_vertices [] ms = refl
+length_vertices (r ∷ rs) ms = omega (arith, length_vertices rs (drop r.degree ms))
 
-abbrev pub no_move : Move
-no_move = record { target = 0; cost = 0 }
+pub owner_low : (p : Player) → numbered p ≤ 1
+owner_low Controller = omega arith
+owner_low Harbour = omega arith
+
+pub move_facts : (n : ℕ) (m : Move) → IsTrue (move_ranged n m) → RangedMove n m
+move_facts n m h =
+    let p = and_parts (nat_lt m.target n) (nat_le m.cost 10000) h in
+    record { target = ltb-true m.target n p.0; cost = leb-true m.cost 10000 p.1 }
+
+pub vertices_ranged : (n : ℕ) (rs : List Row) (ms : List Move) →
+    All (λ r. IsTrue (row_ranged r)) rs → All (λ m. IsTrue (move_ranged n m)) ms → length ms ≤ 1024 → AllByRecursion (RangedVertex n 8) (vertices_of rs ms)
+vertices_ranged n [] ms a b c = tt
+vertices_ranged n (r ∷ rs) ms a b c = (
+  record {
+    owner = owner_low r.owner;
+    colour = leb-true r.colour 8 (All-head (λ x. IsTrue (row_ranged x)) r rs a);
+    few = omega (arith, length-take r.degree ms);
+    moves = recursion_from_All (RangedMove n) _ (All-weaker (λ m. IsTrue (move_ranged n m)) (RangedMove n) (move_facts n) _ (All-take (λ m. IsTrue (move_ranged n m)) r.degree ms b));
+  },
+  vertices_ranged n rs (drop r.degree ms) (All-tail (λ x. IsTrue (row_ranged x)) r rs a) (All-drop (λ m. IsTrue (move_ranged n m)) r.degree ms b) (omega (arith, length-drop r.degree ms)),
+)
 
 module _ (d : Drawn) where
-  abbrev pub rows : List Row
-  rows = take d.count d.rows
-
-  abbrev pub moves : List Move
-  moves = take d.used d.moves
-
-  pub rows_length : length rows ≡ d.count
+  pub rows_length : length (rows d) ≡ d.count
   rows_length = length-take-le d.count d.rows (omega (arith, d.room, d.wide))
 
-  pub moves_length : length moves ≡ d.used
+  pub moves_length : length (moves d) ≡ d.used
   moves_length = length-take-le d.used d.moves (omega (arith, d.few, d.long))
 
-  pub total_is : total rows ≡ d.used
-  total_is = omega (arith, laid_end 0 rows d.used d.ordered)
-
   pub size_is : size (sheet d) ≡ d.count
-  size_is = length_vertices rows moves ∙ rows_length
-
-  pub count_is : move_count (sheet d).vertices ≡ d.used
-  count_is = count_vertices rows moves (omega (arith, total_is, moves_length)) ∙ total_is
-
-  pub past : (v : ℕ) → d.count ≤ v → vertex_at (sheet d) v ≡ None
-  past v h = slice_get_past (sheet d).vertices v (omega (arith, size_is))
+  size_is = length_vertices (rows d) (moves d) ∙ rows_length
 
   pub sheet_ranged : Ranged (sheet d)
   sheet_ranged = record {
     few = omega (arith, size_is, d.room);
     low = omega arith;
     even = refl;
-    vertices = vertices_ranged (size (sheet d)) rows moves d.tinted (rw size_is d.ranged) (omega (arith, moves_length, d.few));
+    vertices = vertices_ranged (size (sheet d)) (rows d) (moves d) d.tinted (rw size_is d.ranged) (omega (arith, moves_length, d.few));
   }
-
-  -- a vertex that is there
-  module _ (v : ℕ) (h : v < d.count) where
-    abbrev pub row : Row
-    row = slice_index_or d.rows v no_row
-
-    pub row_is : slice_get rows v ≡ Some row
-    row_is = slice_get-get_or rows v no_row (omega (arith, rows_length)) ∙ ap Some (get_or-take d.count d.rows v no_row h)
-
-    pub start_is : row.start ≡ total (take v rows)
-    start_is = laid_start 0 rows d.used v row d.ordered row_is ∙ zero-add (total (take v rows))
-
-    -- its moves lie among those that stand
-    pub ends_in : row.start + row.degree ≤ d.used
-    ends_in = omega (arith, start_is, ends_within rows v row row_is, total_is)
-
-    abbrev pub its_moves : List Move
-    its_moves = take row.degree (drop row.start moves)
-
-    pub vertex_is : vertex_at (sheet d) v ≡ Some (vertex_with row its_moves)
-    vertex_is = nth_vertices rows moves v row row_is ∙ ap (λ k. Some (vertex_with row (take row.degree (drop k moves)))) (sym start_is)
-
-    pub moves_are : length its_moves ≡ row.degree
-    moves_are = length-take-le row.degree (drop row.start moves) (omega (arith, length-drop row.start moves, moves_length, ends_in))
-
-    pub degree_is : degree_at (sheet d) v ≡ row.degree
-    degree_is = ap degree_or_none vertex_is ∙ moves_are
-
-    pub move_is : (i : ℕ) → i < row.degree → move_at (sheet d) v i ≡ Some (slice_index_or d.moves (row.start + i) no_move)
-    move_is i l =
-        ap (λ o. and_then o (λ x. slice_get x.moves i)) vertex_is
-        ∙ slice_get-get_or its_moves i no_move (omega (arith, moves_are))
-        ∙ ap Some (get_or-take row.degree (drop row.start moves) i no_move l ∙ get_or-drop row.start moves i no_move ∙ get_or-take d.used d.moves (row.start + i) no_move (omega (arith, ends_in)))
-
-    pub move_absent : (i : ℕ) → row.degree ≤ i → move_at (sheet d) v i ≡ None
-    move_absent i l = ap (λ o. and_then o (λ x. slice_get x.moves i)) vertex_is ∙ slice_get_past its_moves i (omega (arith, moves_are))
 
 -- a number names itself
 module _ (n : ℕ) where
@@ -104,7 +72,7 @@ module _ (n : ℕ) where
   pub itself_only : (v x : ℕ) → itself n v ≡ Some x → itself n x ≡ Some v
   itself_only v x e = elim (cases_lt v n) [
     | inl h ↦ let same : v ≡ x = (let f : Some v ≡ Some x = sym (itself_within v h) ∙ e in cc) in itself_within x (omega arith) ∙ ap Some (sym same)
-    | inr h ↦ absurd (let f : None ≡ Some x = sym (itself_past v h) ∙ e in let z : ◌≡◌ {A = ℕ} 0 1 = cc in omega arith)
+    | inr h ↦ let f : None ≡ Some x = sym (itself_past v h) ∙ e in cc
   ]
 
   is_some : (v : ℕ) → option_is_some (itself n v) ≡ nat_lt v n

@@ -1,6 +1,6 @@
 -- How a drawn chart lies in its two arrays: a row for each vertex, and the moves of all vertices one
 -- behind the other, in the order of the vertices.
-use Rattle.std.specs.Prelude.{ℕ, ◌+◌, Bool, true, ◌&&◌, List, [], ◌∷◌, take, drop, ◌==◌, nat_le, nat_lt}
+use Rattle.std.specs.Prelude.{ℕ, ◌+◌, Bool, ◌&&◌, List, [], ◌∷◌, take, drop, ◌==◌, nat_le, nat_lt}
 use Rattle.chart.specs.declared.parts.Move.{Move}
 use Rattle.chart.specs.Arena.{Vertex}
 use Rattle.chart.specs.Players.{numbered}
@@ -31,11 +31,6 @@ laid_out k (r ∷ rs) = with_start k r ∷ laid_out (k + r.degree) rs
 abbrev pub laid : ℕ → List Row → ℕ → Bool
 laid k [] e = k == e
 laid k (r ∷ rs) e = r.start == k && laid (k + r.degree) rs e
-
--- a test that every element passes
-abbrev pub every : {A : Type 0} → (A → Bool) → List A → Bool
-every test [] = true
-every test (x ∷ xs) = test x && every test xs
 
 abbrev pub row_ranged : Row → Bool
 row_ranged r = nat_le r.colour 8

@@ -3,12 +3,19 @@ ghost use Rattle.std.specs.List.{insert, remove};
 ghost use Rattle.drawn.specs.Rows.{total, laid_out, with_degree};
 ghost use Rattle.drawn.specs.Rules.{adjusted};
 
+use super::limits::{MOST_MOVES, MOST_VERTICES};
 use super::row::Row;
 use chart::Move;
 
 /// The first `used` moves with one more at `at`: those from there on go up by one.
-pub(crate) fn with_move(mut moves: [Move; 1024], used: usize, at: usize, one: Move) -> [Move; 1024]
-    requires { (at ≤ used) × (used < 1024) }
+pub(crate) fn with_move(
+    mut moves: [Move; MOST_MOVES],
+    used: usize,
+    at: usize,
+    one: Move,
+) -> [Move; MOST_MOVES]
+    requires within { at ≤ used }
+    requires room { used < 1024 }
     ensures front { take (used + 1) result ≡ insert (take used moves) at one }
     ensures len { length result ≡ 1024 }
 {
@@ -18,8 +25,13 @@ pub(crate) fn with_move(mut moves: [Move; 1024], used: usize, at: usize, one: Mo
 }
 
 /// The first `used` moves without the one at `at`: those behind it go down by one.
-pub(crate) fn without_move(mut moves: [Move; 1024], used: usize, at: usize) -> [Move; 1024]
-    requires { (at < used) × (used ≤ 1024) }
+pub(crate) fn without_move(
+    mut moves: [Move; MOST_MOVES],
+    used: usize,
+    at: usize,
+) -> [Move; MOST_MOVES]
+    requires within { at < used }
+    requires few { used ≤ 1024 }
     ensures front { take (used - 1) result ≡ remove (take used moves) at }
     ensures len { length result ≡ 1024 }
 {
@@ -41,11 +53,11 @@ fn lay_out(rows: &mut [Row])
 
 /// The first `count` rows where one vertex has another number of moves.
 pub(crate) fn resized(
-    mut rows: [Row; 128],
+    mut rows: [Row; MOST_VERTICES],
     count: usize,
     vertex: usize,
     degree: usize,
-) -> [Row; 128]
+) -> [Row; MOST_VERTICES]
     requires within { vertex < count }
     requires room { count ≤ 128 }
     requires few { total (adjusted (with_degree degree) (take count rows) vertex) ≤ 1024 }

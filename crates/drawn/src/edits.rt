@@ -19,8 +19,8 @@ impl Drawn {
             colour: 0,
             start: 0,
             degree: 0,
-        }; 128];
-        let moves = [Move { target: 0, cost: 0 }; 1024];
+        }; MOST_VERTICES];
+        let moves = [Move { target: 0, cost: 0 }; MOST_MOVES];
         Drawn {
             count: 0,
             used: 0,
@@ -29,14 +29,13 @@ impl Drawn {
         }
     }
 
-    /// Adds a vertex without moves and answers its number.
+    /// Adds a vertex without moves and answers its number. Refuses an owner above 1, then a colour
+    /// above 8, then a 129th vertex; what it refuses leaves the chart as it stood.
     pub fn place(&mut self, owner: u32, colour: u32) -> Result<usize, Refusal>
         ensures answer { outcome result ≡ place_outcome (sheet self.old) owner colour }
         ensures after { sheet self.new ≡ placed (sheet self.old) owner colour }
     {
-        let Some(player) = Player::from_number(owner) else {
-            return Err(Refusal::UnknownOwner);
-        };
+        let player = Player::try_from(owner)?;
         if colour > HIGHEST_COLOUR {
             return Err(Refusal::ColourTooHigh);
         }
@@ -60,14 +59,16 @@ impl Drawn {
         Ok(number)
     }
 
-    /// Adds a last move at `from` and answers its number there.
+    /// Adds a last move at `from`, of so many metres of tow, and answers its number there. Refuses an
+    /// absent vertex at either end, then a cost above 10,000, then a 1,025th move.
     pub fn join(&mut self, from: usize, to: usize, cost: u32) -> Result<usize, Refusal>
         ensures answer { outcome result ≡ join_outcome (sheet self.old) from to cost }
         ensures after { sheet self.new ≡ joined (sheet self.old) from to cost }
     {
         let count = self.count;
         let used = self.used;
-        if from >= count || to >= count {
+        let row = self.row(from).ok_or(Refusal::AbsentVertex)?;
+        if to >= count {
             return Err(Refusal::AbsentVertex);
         }
         if cost > DEAREST {
@@ -76,7 +77,6 @@ impl Drawn {
         if used >= MOST_MOVES {
             return Err(Refusal::TooManyMoves);
         }
-        let row = self.rows[from];
         let number = row.degree;
         let moves = with_move(
             self.moves,
@@ -94,17 +94,15 @@ impl Drawn {
         Ok(number)
     }
 
-    /// Takes a move out; later ones at the vertex go down by one.
+    /// Takes a move out; later ones at the vertex go down by one. Refuses an absent vertex, then an
+    /// absent move.
     pub fn strike(&mut self, vertex: usize, number: usize) -> Result<(), Refusal>
         ensures answer { outcome result ≡ strike_outcome (sheet self.old) vertex number }
         ensures after { sheet self.new ≡ struck (sheet self.old) vertex number }
     {
         let count = self.count;
         let used = self.used;
-        if vertex >= count {
-            return Err(Refusal::AbsentVertex);
-        }
-        let row = self.rows[vertex];
+        let row = self.row(vertex).ok_or(Refusal::AbsentVertex)?;
         if number >= row.degree {
             return Err(Refusal::AbsentMove);
         }

@@ -1,6 +1,7 @@
-ghost use Rattle.std.specs.Prelude.{◌≡◌, ◌≤◌, true, length, take};
-ghost use Rattle.drawn.specs.Rows.{laid, every, row_ranged, move_ranged};
+ghost use Rattle.std.specs.Prelude.{◌≡◌, ◌≤◌, true, IsTrue, All, length, take};
+ghost use Rattle.drawn.specs.Rows.{laid, row_ranged, move_ranged};
 
+use super::limits::{MOST_MOVES, MOST_VERTICES};
 use super::row::Row;
 use chart::Move;
 
@@ -10,13 +11,13 @@ use chart::Move;
 pub struct Drawn {
     pub(crate) count: usize,
     pub(crate) used: usize,
-    pub(crate) rows: [Row; 128],
-    pub(crate) moves: [Move; 1024],
+    pub(crate) rows: [Row; MOST_VERTICES],
+    pub(crate) moves: [Move; MOST_MOVES],
     ghost wide: { length rows ≡ 128 },
     ghost long: { length moves ≡ 1024 },
     ghost room: { count ≤ 128 },
     ghost few: { used ≤ 1024 },
     ghost ordered: { laid 0 (take count rows) used ≡ true },
-    ghost tinted: { every row_ranged (take count rows) ≡ true },
-    ghost ranged: { every (move_ranged count) (take used moves) ≡ true },
+    ghost tinted: { All (λ r. IsTrue (row_ranged r)) (take count rows) },
+    ghost ranged: { All (λ m. IsTrue (move_ranged count m)) (take used moves) },
 }

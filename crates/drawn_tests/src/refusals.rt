@@ -15,13 +15,10 @@ fn numbers_and_places(rt: HostRuntime) {
         Refusal::TooManyMoves,
         Refusal::AbsentMove,
     ];
-    let mut number = 1;
-    for refusal in all {
+    for (refusal, number) in all.iter().zip(1..8) {
         assert_eq!(rt; refusal.number(), number);
         assert_eq!(rt; refusal.place(), 0);
-        number = number.saturating_add(1);
     }
-    assert_eq!(rt; number, 8);
 }
 
 #[test]

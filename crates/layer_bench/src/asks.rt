@@ -4,7 +4,7 @@ use chart::Chart;
 
 /// Asks the question of every vertex, or of every move, in order.
 pub fn in_order<Q: Question, C: Chart>(chart: &C, rounds: u32) -> Tally {
-    let mut tally = Tally::new();
+    let mut tally = Tally::default();
     for _ in 0..rounds {
         for vertex in 0..chart.size() {
             for number in 0..Q::times_at(chart, vertex) {
@@ -19,7 +19,7 @@ pub fn in_order<Q: Question, C: Chart>(chart: &C, rounds: u32) -> Tally {
 
 /// Asks so often, each time of a vertex that the answer before decides.
 pub fn in_turn<Q: Question, C: Chart>(chart: &C, times: u32) -> Tally {
-    let mut tally = Tally::new();
+    let mut tally = Tally::default();
     let size = chart.size();
     let mut vertex = 0;
     for turn in 0..times {
@@ -33,8 +33,5 @@ pub fn in_turn<Q: Question, C: Chart>(chart: &C, times: u32) -> Tally {
 
 /// Asks about the number, or about 0 where there is nothing of that number, as at a toll.
 fn first_or<Q: Question, C: Chart>(chart: &C, vertex: usize, number: usize) -> Option<usize> {
-    match Q::ask(chart, vertex, number) {
-        Some(said) => Some(said),
-        None => Q::ask(chart, vertex, 0),
-    }
+    Q::ask(chart, vertex, number).or_else(|| Q::ask(chart, vertex, 0))
 }

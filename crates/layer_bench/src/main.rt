@@ -19,22 +19,41 @@ mod times;
 /// argument `time`, how long a question took.
 fn main(rt: HostRuntime) -> io::Result<()> {
     let timing = timing(&rt)?;
-    put::<Size>(&rt, timing)?;
-    put::<Owner>(&rt, timing)?;
-    put::<Colour>(&rt, timing)?;
-    put::<Degree>(&rt, timing)?;
-    put::<Step>(&rt, timing)?;
-    put::<Name>(&rt, timing)
+    let charts = Charts::full();
+    put::<Size>(&rt, &charts, timing)?;
+    put::<Owner>(&rt, &charts, timing)?;
+    put::<Colour>(&rt, &charts, timing)?;
+    put::<Degree>(&rt, &charts, timing)?;
+    put::<Step>(&rt, &charts, timing)?;
+    put::<Name>(&rt, &charts, timing)
 }
 
 fn timing(rt: &HostRuntime) -> io::Result<bool> {
-    let mut found = false;
-    for word in env::args(rt)? {
-        if word.as_str() == "time" {
-            found = true;
+    Ok(env::args(rt)?.any(|word| word.as_str() == "time"))
+}
+
+/// The charts that are asked, without a layer and under one and two.
+#[derive(Drop)]
+struct Charts {
+    drawn: Drawn,
+    one: Waiting<Drawn>,
+    two: Waiting<Waiting<Drawn>>,
+}
+
+impl Charts {
+    fn full() -> Charts {
+        Charts {
+            drawn: full_chart(),
+            one: Waiting {
+                below: full_chart(),
+            },
+            two: Waiting {
+                below: Waiting {
+                    below: full_chart(),
+                },
+            },
         }
     }
-    Ok(found)
 }
 
 /// A refusal here would show in what is printed.
@@ -49,58 +68,43 @@ fn full_chart() -> Drawn {
     chart
 }
 
-fn put<Q: Question>(rt: &HostRuntime, timing: bool) -> io::Result<()> {
-    let drawn = full_chart();
-    let one = Waiting {
-        below: full_chart(),
-    };
-    let two = Waiting {
-        below: Waiting {
-            below: full_chart(),
-        },
-    };
+fn put<Q: Question>(rt: &HostRuntime, charts: &Charts, timing: bool) -> io::Result<()> {
     if timing {
-        return print_times::<Q>(rt, &drawn, &one, &two);
+        return print_times::<Q>(rt, charts);
     }
-    print_answers::<Q, Drawn>(rt, &drawn)?;
-    print_answers::<Q, Waiting<Drawn>>(rt, &one)?;
-    print_answers::<Q, Waiting<Waiting<Drawn>>>(rt, &two)
+    print_answers::<Q, _>(rt, &charts.drawn)?;
+    print_answers::<Q, _>(rt, &charts.one)?;
+    print_answers::<Q, _>(rt, &charts.two)
 }
 
 fn print_answers<Q: Question, C: Chart>(rt: &HostRuntime, chart: &C) -> io::Result<()> {
     let all = in_order::<Q, C>(chart, 1);
     let turns = in_turn::<Q, C>(chart, 10_000);
-    let word = Q::word();
+    let word = Q::WORD;
     println!(rt;
         "{word}: {} in order, sum {:x}; {} in turn, sum {:x}",
         all.asked, all.sum, turns.asked, turns.sum
     )
 }
 
-fn print_times<Q: Question>(
-    rt: &HostRuntime,
-    drawn: &Drawn,
-    one: &Waiting<Drawn>,
-    two: &Waiting<Waiting<Drawn>>,
-) -> io::Result<()> {
-    let low = time_in_order::<Q, Drawn>(rt, drawn)?;
-    let middle = time_in_order::<Q, Waiting<Drawn>>(rt, one)?;
-    let high = time_in_order::<Q, Waiting<Waiting<Drawn>>>(rt, two)?;
-    print_ratio::<Q>(rt, "in order", low, middle, high)?;
-    let low = time_in_turn::<Q, Drawn>(rt, drawn)?;
-    let middle = time_in_turn::<Q, Waiting<Drawn>>(rt, one)?;
-    let high = time_in_turn::<Q, Waiting<Waiting<Drawn>>>(rt, two)?;
-    print_ratio::<Q>(rt, "in turn", low, middle, high)
+fn print_times<Q: Question>(rt: &HostRuntime, charts: &Charts) -> io::Result<()> {
+    let in_order = [
+        time_in_order::<Q, _>(rt, &charts.drawn)?,
+        time_in_order::<Q, _>(rt, &charts.one)?,
+        time_in_order::<Q, _>(rt, &charts.two)?,
+    ];
+    print_ratio::<Q>(rt, "in order", in_order)?;
+    let in_turn = [
+        time_in_turn::<Q, _>(rt, &charts.drawn)?,
+        time_in_turn::<Q, _>(rt, &charts.one)?,
+        time_in_turn::<Q, _>(rt, &charts.two)?,
+    ];
+    print_ratio::<Q>(rt, "in turn", in_turn)
 }
 
-fn print_ratio<Q: Question>(
-    rt: &HostRuntime,
-    way: &str,
-    low: u128,
-    middle: u128,
-    high: u128,
-) -> io::Result<()> {
-    let word = Q::word();
+fn print_ratio<Q: Question>(rt: &HostRuntime, way: &str, times: [u128; 3]) -> io::Result<()> {
+    let word = Q::WORD;
+    let [low, middle, high] = times;
     let ratio = high.saturating_mul(100).checked_div(low).unwrap_or(0);
     let (whole, part) = (ratio / 100, ratio % 100);
     println!(rt;

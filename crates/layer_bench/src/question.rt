@@ -1,8 +1,11 @@
-use chart::{Chart, Player};
+use chart::Chart;
 
 /// A question of a vertex, or of a move of it. What is said comes down to a number.
 pub trait Question {
-    fn word() -> &'static str;
+    const WORD: &'static str;
+
+    /// How many questions of a chart it consists of.
+    const PARTS: u128 = 1;
 
     fn ask<C: Chart>(chart: &C, vertex: usize, number: usize) -> Option<usize>;
 
@@ -15,11 +18,6 @@ pub trait Question {
     fn next(size: usize, vertex: usize, said: usize) -> usize {
         let next = vertex.wrapping_add(1 + said % 2);
         if next < size { next } else { 0 }
-    }
-
-    /// How many questions of a chart it consists of.
-    fn parts() -> u128 {
-        1
     }
 }
 
@@ -38,50 +36,33 @@ pub struct Step;
 pub struct Name;
 
 impl Question for Size {
-    fn word() -> &'static str {
-        "size, height"
-    }
+    const WORD: &'static str = "size, height";
+
+    const PARTS: u128 = 2;
 
     fn ask<C: Chart>(chart: &C, _vertex: usize, _number: usize) -> Option<usize> {
         Some(chart.size() ^ chart.height() as usize)
     }
-
-    fn parts() -> u128 {
-        2
-    }
 }
 
 impl Question for Owner {
-    fn word() -> &'static str {
-        "owner"
-    }
+    const WORD: &'static str = "owner";
 
     fn ask<C: Chart>(chart: &C, vertex: usize, _number: usize) -> Option<usize> {
-        match chart.owner(vertex) {
-            Some(Player::Controller) => Some(0),
-            Some(Player::Harbour) => Some(1),
-            None => None,
-        }
+        chart.owner(vertex).map(|player| u32::from(player) as usize)
     }
 }
 
 impl Question for Colour {
-    fn word() -> &'static str {
-        "colour"
-    }
+    const WORD: &'static str = "colour";
 
     fn ask<C: Chart>(chart: &C, vertex: usize, _number: usize) -> Option<usize> {
-        match chart.colour(vertex) {
-            Some(colour) => Some(colour as usize),
-            None => None,
-        }
+        chart.colour(vertex).map(usize::from)
     }
 }
 
 impl Question for Degree {
-    fn word() -> &'static str {
-        "degree"
-    }
+    const WORD: &'static str = "degree";
 
     fn ask<C: Chart>(chart: &C, vertex: usize, _number: usize) -> Option<usize> {
         chart.degree(vertex)
@@ -89,15 +70,10 @@ impl Question for Degree {
 }
 
 impl Question for Step {
-    fn word() -> &'static str {
-        "move"
-    }
+    const WORD: &'static str = "move";
 
     fn ask<C: Chart>(chart: &C, vertex: usize, number: usize) -> Option<usize> {
-        match chart.move_at(vertex, number) {
-            Some(step) => Some(step.target),
-            None => None,
-        }
+        chart.move_at(vertex, number).map(|step| step.target)
     }
 
     fn times_at<C: Chart>(chart: &C, vertex: usize) -> usize {
@@ -110,18 +86,11 @@ impl Question for Step {
 }
 
 impl Question for Name {
-    fn word() -> &'static str {
-        "name, find"
-    }
+    const WORD: &'static str = "name, find";
+
+    const PARTS: u128 = 2;
 
     fn ask<C: Chart>(chart: &C, vertex: usize, _number: usize) -> Option<usize> {
-        match chart.name(vertex) {
-            Some(name) => chart.find(name),
-            None => None,
-        }
-    }
-
-    fn parts() -> u128 {
-        2
+        chart.find(chart.name(vertex)?)
     }
 }

@@ -7,14 +7,16 @@ pub struct Tally {
     pub sum: u64,
 }
 
-impl Tally {
-    pub fn new() -> Tally
-        ensures asked { result.asked ≡ 0 }
-        ensures sum { result.sum ≡ 0 }
-    {
+/// No answer yet.
+impl Default for Tally {
+    ghost is_default = { λ t. (t.asked ≡ 0) × (t.sum ≡ 0) };
+
+    fn default() -> Tally {
         Tally { asked: 0, sum: 0 }
     }
+}
 
+impl Tally {
     pub fn add(&mut self, said: usize) {
         self.asked = self.asked.wrapping_add(1);
         self.sum = self.sum.rotate_left(1) ^ said as u64;

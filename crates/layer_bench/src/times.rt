@@ -9,22 +9,21 @@ use std::time::Instant;
 /// The time of one question in picoseconds, where all are asked in order: the best of 7.
 pub fn time_in_order<Q: Question, C: Chart>(rt: &impl Clock, chart: &C) -> io::Result<u128> {
     let rounds = 1_000_000u32.checked_div(chart.size() as u32).unwrap_or(0);
-    let mut best = u128::MAX;
-    for _ in 0..7 {
-        let start = Instant::now(rt)?;
-        let tally = in_order::<Q, C>(chart, rounds);
-        let taken = start.elapsed(rt)?;
-        best = best.min(shared_out::<Q>(taken.as_nanos(), tally));
-    }
-    Ok(best)
+    best_of_7::<Q, _>(rt, || in_order::<Q, C>(chart, rounds))
 }
 
 /// The time of one question in picoseconds, where each waits for the answer before: the best of 7.
 pub fn time_in_turn<Q: Question, C: Chart>(rt: &impl Clock, chart: &C) -> io::Result<u128> {
+    best_of_7::<Q, _>(rt, || in_turn::<Q, C>(chart, 1_000_000))
+}
+
+fn best_of_7<Q: Question, F: Fn() -> Tally>(rt: &impl Clock, asks: F) -> io::Result<u128>
+    requires { F.IsAlwaysCallable asks }
+{
     let mut best = u128::MAX;
     for _ in 0..7 {
         let start = Instant::now(rt)?;
-        let tally = in_turn::<Q, C>(chart, 1_000_000);
+        let tally = asks();
         let taken = start.elapsed(rt)?;
         best = best.min(shared_out::<Q>(taken.as_nanos(), tally));
     }
@@ -37,6 +36,6 @@ fn shared_out<Q: Question>(nanos: u128, tally: Tally) -> u128 {
     nanos
         .saturating_add(odd)
         .saturating_mul(1000)
-        .checked_div((tally.asked as u128).saturating_mul(Q::parts()))
+        .checked_div((tally.asked as u128).saturating_mul(Q::PARTS))
         .unwrap_or(0)
 }

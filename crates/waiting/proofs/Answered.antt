@@ -1,16 +1,17 @@
 -- What the waiting chart answers about a number, by the position that lies there.
-use Rattle.std.specs.Prelude.{◌≡◌, ℕ, zero, suc, ◌<◌, ◌≤◌, true, [], ◌∷◌, map, length, Some, None, Option, ◌==◌, ◌≢◌, refl}
+use Rattle.std.specs.Prelude.{◌≡◌, ℕ, zero, suc, ◌<◌, true, [], ◌∷◌, map, length, Some, None, ◌==◌, nat_lt}
 use Rattle.std.proofs.Common.{sym, ap, ◌∙◌, inl, inr, arith}
+use Rattle.std.specs.Bool.{then_some}
 use Rattle.std.specs.Option.{option_map}
 use Rattle.std.specs.List.{slice_get}
 use Rattle.std.proofs.lemmas.List.{length-map}
-use Rattle.std.proofs.lemmas.Option.{slice_get_past, slice_get_within}
-use Rattle.std.proofs.lemmas.Bool.{lt-ltb, le-ltb, eq-eqb, ne_eqb, and_from, and_right, cond-true, cond-false, cases_Bool, cases_lt}
+use Rattle.std.proofs.lemmas.Option.{slice_get_past}
+use Rattle.std.proofs.lemmas.Bool.{and_left, lt-ltb, eq-eqb, ne_eqb, and_from, cond-true, cond-false, cases_Bool, cases_lt}
 use Rattle.chart.specs.declared.parts.Move.{Move}
-use Rattle.chart.specs.Arena.{Arena, Vertex, Ranged, size, vertex_at, move_at, and_then}
-use Rattle.game.specs.Reading.{row, owner_of, colour_of, degree_of}
+use Rattle.chart.specs.Arena.{Arena, size, vertex_at, move_at}
+use Rattle.game.specs.Reading.{row, owner_of, colour_of}
 use Rattle.game.specs.Waiting.{arrive, toll, positions, place, vertex_in, level_in, stage_in, tint, lifted, paying, position, may_be_laid, waiting, first}
-use Rattle.game.proofs.Readings.{vertex_there, owner_is, colour_is, degree_is, target_is, target_low}
+use Rattle.game.proofs.Readings.{vertex_there, owner_is, colour_is}
 use Rattle.game.proofs.Positions.{unlaid, waiting_size, waiting_at, waiting_past, vertex_in_low, moves_on, moves_off}
 use Rattle.waiting.specs.declared.names.Position.{Position}
 use Rattle.waiting.specs.Positions.{located, first_of}
@@ -25,7 +26,7 @@ tint_given h k l t low = grind arith
 module _ (a : Arena) where
   pub past : (p : ℕ) → None ≡ located a p → vertex_at (waiting a) p ≡ None
   past p e = elim (cases_lt p (size (waiting a))) [
-    | inl h ↦ absurd (let f : None ≡ Some (spot a p) = e ∙ located_there a p h in let z : ◌≡◌ {A = ℕ} 0 1 = cc in omega arith)
+    | inl h ↦ (let f : None ≡ Some (spot a p) = e ∙ located_there a p h in cc)
     | inr h ↦ elim (cases_Bool (may_be_laid a)) [
       | inl ok ↦ waiting_past a ok p (let n = waiting_size a ok in omega arith)
       | inr un ↦ ap (λ w. vertex_at w p) (unlaid a un)
@@ -37,7 +38,7 @@ module _ (a : Arena) where
     within : p < size (waiting a)
     within = elim (cases_lt p (size (waiting a))) [
       | inl h ↦ h
-      | inr h ↦ absurd (let f : None ≡ Some x = sym (located_past a p h) ∙ sym e in let z : ◌≡◌ {A = ℕ} 0 1 = cc in omega arith)
+      | inr h ↦ (let f : None ≡ Some x = sym (located_past a p h) ∙ sym e in cc)
     ]
 
     pub laid_there : may_be_laid a ≡ true
@@ -112,38 +113,16 @@ module _ (a : Arena) where
       pub move_off : (i : ℕ) → slice_get (paying a p ∷ []) i ≡ move_at (waiting a) p i
       move_off i = sym (moves_off a laid_there p low_there stage_off i)
 
-      pub move_beyond : (i : ℕ) → (i ≢ 0) → None ≡ move_at (waiting a) p i
-      move_beyond zero n = absurd (n refl)
-      move_beyond (suc i) n = move_off (suc i)
-
-      pub paying_there : Some (record { target = place a x.below x.level 0; cost = 0 }) ≡ move_at (waiting a) p 0
-      paying_there = ap (λ y. Some (record { target = place a y.below y.level 0; cost = 0 })) (sym is_spot) ∙ move_off 0
+      pub move_paid : (i t : ℕ) → t ≡ place a x.below x.level 0 → then_some (i == 0) (record { target = t; cost = 0 }) ≡ move_at (waiting a) p i
+      move_paid zero t is = ap (λ n. Some (record { target = n; cost = 0 })) (is ∙ ap (λ y. place a y.below y.level 0) (sym is_spot)) ∙ move_off 0
+      move_paid (suc i) t is = ap (λ b. then_some b (record { target = t; cost = 0 })) (ne_eqb (suc i) 0 (λ z. omega (arith, z))) ∙ move_off (suc i)
 
   -- a colour that is answered below
   pub colour_known : (v k : ℕ) → Some k ≡ option_map (λ y. y.colour) (vertex_at a v) → (v < size a) × (colour_of a v ≡ k)
   colour_known v k e = elim (cases_lt v (size a)) [
     | inl h ↦ (h, (let f : Some k ≡ Some (row a v).colour = e ∙ ap (option_map (λ y. y.colour)) (vertex_there a v h) in colour_is a v _ (vertex_there a v h) ∙ cc))
-    | inr h ↦ absurd (let f : Some k ≡ None = e ∙ ap (option_map (λ y. y.colour)) (slice_get_past a.vertices v h) in let z : ◌≡◌ {A = ℕ} 0 1 = cc in omega arith)
+    | inr h ↦ (let f : Some k ≡ None = e ∙ ap (option_map (λ y. y.colour)) (slice_get_past a.vertices v h) in cc)
   ]
-
-  -- none is answered only past the vertices
-  pub colour_absent : (v : ℕ) → None ≡ option_map (λ y. y.colour) (vertex_at a v) → size a ≤ v
-  colour_absent v e = elim (cases_lt v (size a)) [
-    | inl h ↦ absurd (let f : None ≡ Some (row a v).colour = e ∙ ap (option_map (λ y. y.colour)) (vertex_there a v h) in let z : ◌≡◌ {A = ℕ} 0 1 = cc in omega arith)
-    | inr h ↦ h
-  ]
-
-  -- a move that is answered below arrives at a vertex
-  pub target_known : Ranged a → (v i : ℕ) (m : Move) → Some m ≡ move_at a v i → m.target < size a
-  target_known r v i m e = by_vertex (vertex_at a v) refl e
-    where
-      by_vertex : (o : Option Vertex) → vertex_at a v ≡ o → Some m ≡ and_then o (λ y. slice_get y.moves i) → m.target < size a
-      by_vertex None w f = absurd (let z : ◌≡◌ {A = ℕ} 0 1 = cc in omega arith)
-      by_vertex (Some y) w f =
-          let low : i < degree_of a v = rw (degree_is a v y w) (slice_get_within y.moves i m (sym f)) in
-          let h = target_low a r v i low in
-          let t = target_is a v y w i m (sym f) in
-          omega arith
 
   -- what a move below becomes, by the colour where it arrives
   pub lifted_is : (v i k l t : ℕ) (m : Move) → Some m ≡ move_at a v i → colour_of a m.target ≡ k → t ≡ place a m.target (arrive l k) (toll m.cost) →
@@ -152,11 +131,13 @@ module _ (a : Arena) where
       ap (λ n. Some (record { target = n; cost = 0 })) (is ∙ ap (λ j. place a m.target (arrive l j) (toll m.cost)) (sym same)) ∙ ap (option_map (lifted a l)) e
 
   -- first positions
-  pub first_there : (v k t : ℕ) → may_be_laid a ≡ true → Some k ≡ option_map (λ y. y.colour) (vertex_at a v) → t ≡ place a v (arrive 0 k) 0 → Some t ≡ first_of a v
-  first_there v k t ok e is =
+  pub first_is : (v k t : ℕ) → Some k ≡ option_map (λ y. y.colour) (vertex_at a v) → t ≡ place a v (arrive 0 k) 0 → then_some (may_be_laid a) t ≡ first_of a v
+  first_is v k t e is =
       let known = colour_known v k e in
-      ap Some (is ∙ ap (λ j. place a v (arrive 0 j) 0) (sym known.1))
-      ∙ sym (cond-true _ (Some (first a v)) None (and_from (may_be_laid a) _ ok (lt-ltb v (size a) known.0)))
-
-  pub first_absent : (v : ℕ) → None ≡ option_map (λ y. y.colour) (vertex_at a v) → None ≡ first_of a v
-  first_absent v e = sym (cond-false _ (Some (first a v)) None (and_right (may_be_laid a) _ (le-ltb v (size a) (colour_absent v e))))
+      elim (cases_Bool (may_be_laid a)) [
+        | inl ok ↦
+            ap (λ b. then_some b t) ok
+            ∙ ap Some (is ∙ ap (λ j. place a v (arrive 0 j) 0) (sym known.1))
+            ∙ sym (cond-true _ (Some (first a v)) None (and_from (may_be_laid a) _ ok (lt-ltb v (size a) known.0)))
+        | inr un ↦ ap (λ b. then_some b t) un ∙ sym (cond-false _ (Some (first a v)) None (and_left (may_be_laid a) (nat_lt v (size a)) un))
+      ]

@@ -35,7 +35,7 @@ module _ (a : Arena) where
     is_sound : sound x ≡ true
     is_sound = elim (cases_Bool (sound x)) [
       | inl ok ↦ ok
-      | inr un ↦ absurd (let f : None ≡ Some p = sym (cond-false (sound x) (Some (place a x.below x.level x.stage)) None un) ∙ e in let z : ◌≡◌ {A = ℕ} 0 1 = cc in omega arith)
+      | inr un ↦ (let f : None ≡ Some p = sym (cond-false (sound x) (Some (place a x.below x.level x.stage)) None un) ∙ e in cc)
     ]
 
     number_is : place a x.below x.level x.stage ≡ p
@@ -83,11 +83,11 @@ module _ (a : Arena) where
     back_over : (p : ℕ) (x : Position N) → naming_over a naming p ≡ Some x → finding_over a finding x ≡ Some p
     back_over p x e = elim (cases_lt p (size (waiting a))) [
       | inl h ↦ by_name h (naming (vertex_in a p)) refl (sym (ap (λ o. and_then o (λ y. option_map (renamed y) (naming y.below))) (located_there a p h)) ∙ e)
-      | inr h ↦ absurd (let f : None ≡ Some x = sym (ap (λ o. and_then o (λ y. option_map (renamed y) (naming y.below))) (located_past a p h)) ∙ e in let z : ◌≡◌ {A = ℕ} 0 1 = cc in omega arith)
+      | inr h ↦ (let f : None ≡ Some x = sym (ap (λ o. and_then o (λ y. option_map (renamed y) (naming y.below))) (located_past a p h)) ∙ e in cc)
     ]
       where
         by_name : p < size (waiting a) → (o : Option N) → naming (vertex_in a p) ≡ o → option_map (renamed (spot a p)) o ≡ Some x → finding_over a finding x ≡ Some p
-        by_name h None w f = absurd (let z : ◌≡◌ {A = ℕ} 0 1 = cc in omega arith)
+        by_name h None w f = cc
         by_name h (Some y) w f =
             let same : renamed (spot a p) y ≡ x = cc in
             subst (λ z. finding_over a finding z ≡ Some p) same
@@ -97,7 +97,7 @@ module _ (a : Arena) where
     forth_over p x e = by_vertex (finding x.below) refl e
       where
         by_vertex : (o : Option ℕ) → finding x.below ≡ o → and_then o (λ v. number_of a (renamed x v)) ≡ Some p → naming_over a naming p ≡ Some x
-        by_vertex None w f = absurd (let z : ◌≡◌ {A = ℕ} 0 1 = cc in omega arith)
+        by_vertex None w f = cc
         by_vertex (Some v) w f =
             ap (λ o. and_then o (λ y. option_map (renamed y) (naming y.below))) (located_is (renamed x v) p f)
             ∙ ap (option_map (renamed (renamed x v))) (k.forth v x.below w)

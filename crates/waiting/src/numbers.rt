@@ -1,6 +1,8 @@
 ghost use Rattle.std.specs.Prelude.{◌≡◌, ◌+◌, ◌*◌, ◌≤◌};
 ghost use Rattle.game.specs.Waiting.{arrive, toll, tint};
 
+use super::names::Position;
+
 /// The level after arriving at a colour: an odd one raises it, a high
 /// enough even one clears it.
 pub fn arrive(level: u8, colour: u8) -> u8
@@ -20,17 +22,18 @@ pub fn arrive(level: u8, colour: u8) -> u8
 pub fn toll(cost: u32) -> u8
     ensures { result ≡ toll cost }
 {
-    if cost == 0 { 0 } else { 1 }
+    u8::from(cost > 0)
 }
 
 /// The colour of a position that does not show its vertex's colour: a toll, or a level at which nothing waits.
-pub(crate) fn signal(height: u8, level: u8, stage: u8) -> u8
-    requires { (height ≤ 28) × ((stage ≡ 0 → level ≡ 0)) }
-    ensures { result ≡ tint height 0 level stage }
+pub(crate) fn signal(height: u8, position: Position<usize>) -> u8
+    requires low { height ≤ 28 }
+    requires unshown { position.stage ≡ 0 → position.level ≡ 0 }
+    ensures { result ≡ tint height 0 position.level position.stage }
 {
-    if stage == 0 {
+    if position.stage == 0 {
         height + 2
-    } else if level == 0 {
+    } else if position.level == 0 {
         0
     } else {
         height + 1
@@ -38,9 +41,10 @@ pub(crate) fn signal(height: u8, level: u8, stage: u8) -> u8
 }
 
 /// The number of a position among those of `levels` levels for each vertex.
-pub(crate) fn place(levels: usize, vertex: usize, level: u8, stage: u8) -> usize
-    requires { (levels ≤ 16) × (vertex ≤ 4096) }
-    ensures { result ≡ (vertex * levels + level) * 2 + stage }
+pub(crate) fn place(levels: usize, position: Position<usize>) -> usize
+    requires low { levels ≤ 16 }
+    requires few { position.below ≤ 4096 }
+    ensures { result ≡ (position.below * levels + position.level) * 2 + position.stage }
 {
-    (vertex * levels + level as usize) * 2 + stage as usize
+    (position.below * levels + position.level as usize) * 2 + position.stage as usize
 }

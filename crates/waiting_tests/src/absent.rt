@@ -1,10 +1,8 @@
 // Questions about vertices, moves and names that are not there.
-use super::layers::triangle;
+use super::layers::{place, triangle};
 use chart::Chart;
 use std::test::Fail;
-use waiting::{
-    Position, Waiting, find_position, locate, position_name, position_number, position_owner,
-};
+use waiting::{Waiting, find_position, locate, position_name, position_number, position_owner};
 
 const FAR: usize = 18_446_744_073_709_551_615;
 
@@ -56,14 +54,7 @@ fn absent_names(rt: HostRuntime) -> Result<(), Fail> {
     assert_eq!(rt; chart.find(place(2, 0, 2)), None);
     let two = Waiting { below: chart };
     let low = place(2, 5, 0);
-    assert_eq!(rt;
-        two.find(Position {
-            below: low,
-            level: 0,
-            stage: 0,
-        }),
-        None
-    );
+    assert_eq!(rt; two.find(place(low, 0, 0)), None);
     Ok(())
 }
 
@@ -76,12 +67,4 @@ fn absent_positions_of_a_lent_chart(rt: HostRuntime) -> Result<(), Fail> {
     assert_eq!(rt; position_number(&below, place(FAR, 0, 0)), None);
     assert_eq!(rt; find_position(&below, place(3, 0, 0)), None);
     Ok(())
-}
-
-fn place(below: usize, level: u8, stage: u8) -> Position<usize> {
-    Position {
-        below,
-        level,
-        stage,
-    }
 }

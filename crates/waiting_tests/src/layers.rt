@@ -23,6 +23,15 @@ pub fn triangle() -> Result<Drawn, Refusal> {
     Ok(chart)
 }
 
+/// The position of a vertex, or of its name, with a level and a stage.
+pub fn place<N>(below: N, level: u8, stage: u8) -> Position<N> {
+    Position {
+        below,
+        level,
+        stage,
+    }
+}
+
 fn free(target: usize) -> Option<Move> {
     Some(Move { target, cost: 0 })
 }
@@ -74,20 +83,12 @@ fn moves_arrive_at_a_level_and_a_stage(rt: HostRuntime) -> Result<(), Fail> {
 fn names_lead_back(rt: HostRuntime) -> Result<(), Fail> {
     let chart = Waiting { below: triangle()? };
     for vertex in 0..chart.size() {
-        let Some(name) = chart.name(vertex) else {
-            assert_eq!(rt; vertex, chart.size());
-            return Ok(());
-        };
-        assert_eq!(rt; chart.find(name), Some(vertex));
+        assert_eq!(rt;
+            chart.name(vertex).and_then(|name| chart.find(name)),
+            Some(vertex)
+        );
     }
-    assert_eq!(rt;
-        chart.name(25),
-        Some(Position {
-            below: 2,
-            level: 2,
-            stage: 1,
-        })
-    );
+    assert_eq!(rt; chart.name(25), Some(place(2, 2, 1)));
     Ok(())
 }
 
@@ -107,12 +108,7 @@ fn a_chart_that_is_only_lent(rt: HostRuntime) -> Result<(), Fail> {
     assert_eq!(rt; positions(&below), 30);
     assert_eq!(rt; position_colour(&below, 23), Some(9));
     assert_eq!(rt; position_move(&below, 0, 1), free(12));
-    let place = Position {
-        below: 2,
-        level: 2,
-        stage: 1,
-    };
-    assert_eq!(rt; locate(&below, 25), Some(place));
-    assert_eq!(rt; position_number(&below, place), Some(25));
+    assert_eq!(rt; locate(&below, 25), Some(place(2, 2, 1)));
+    assert_eq!(rt; position_number(&below, place(2, 2, 1)), Some(25));
     Ok(())
 }

@@ -34,34 +34,26 @@ impl Chart for Lone {
     }
 
     fn owner(&self, vertex: usize) -> Option<Player> {
-        if vertex == 0 {
-            Some(Player::Harbour)
-        } else {
-            None
-        }
+        (vertex == 0).then_some(Player::Harbour)
     }
 
     fn colour(&self, vertex: usize) -> Option<u8> {
-        if vertex == 0 { Some(self.height) } else { None }
+        (vertex == 0).then_some(self.height)
     }
 
     fn degree(&self, vertex: usize) -> Option<usize> {
-        if vertex == 0 { Some(1) } else { None }
+        (vertex == 0).then_some(1)
     }
 
     fn move_at(&self, vertex: usize, number: usize) -> Option<Move> {
-        if vertex == 0 && number == 0 {
-            Some(Move { target: 0, cost: 1 })
-        } else {
-            None
-        }
+        (vertex == 0 && number == 0).then_some(Move { target: 0, cost: 1 })
     }
 
     fn name(&self, vertex: usize) -> Option<usize> {
-        if vertex == 0 { Some(0) } else { None }
+        (vertex == 0).then_some(0)
     }
 
     fn find(&self, name: usize) -> Option<usize> {
-        if name == 0 { Some(0) } else { None }
+        (name == 0).then_some(0)
     }
 }

@@ -1,6 +1,6 @@
 use Rattle.std.proofs.Common.{◌+◌, arith}
-use Rattle.drawn.specs.Readings.{no_row}
-use Rattle.drawn.specs.LaidOut.{sum_more, laid_more, laid_all, total_front}
+use Rattle.drawn.proofs.Standing.{no_row}
+use Rattle.drawn.proofs.LaidOut.{sum_more, laid_more, laid_all, total_front}
 use Rattle.drawn.proofs.arrays.lay_out.Goals as goal
 
 pub overflow_add-next : goal.overflow_add-next

@@ -1,6 +1,7 @@
 -- How an edit of the arrays changes the vertices that they stand for.
-use Rattle.std.specs.Prelude.{◌≡◌, ℕ, zero, suc, ◌+◌, ◌-◌, ◌<◌, ◌≤◌, List, [], ◌∷◌, ◌++◌, length, take, drop, Some, refl}
+use Rattle.std.specs.Prelude.{◌≡◌, ℕ, zero, suc, ◌+◌, ◌-◌, ◌<◌, ◌≤◌, List, [], ◌∷◌, ◌++◌, length, take, drop, Some, None, Option, refl}
 use Rattle.std.proofs.Common.{sym, ap, ap₂, ◌∙◌, append_assoc, arith, add_assoc, zero-add, length-drop, length-take-le}
+use Rattle.std.specs.Option.{option_map}
 use Rattle.std.specs.List.{insert, remove, slice_get}
 use Rattle.std.proofs.lemmas.List.{take_at, drop_at, take-take, drop-append-le, drop-drop, drop-take, take-append-drop, length_push, take-append-le}
 use Rattle.std.proofs.lemmas.List.Edits.{length-remove}
@@ -15,10 +16,6 @@ use Rattle.drawn.specs.Rules.{adjusted, move_count, with_move, without_move}
 abbrev pub vertex_with : Row → List Move → Vertex
 vertex_with r ms = record { owner = numbered r.owner; colour = r.colour; moves = ms }
 
-pub length_vertices : (rs : List Row) (ms : List Move) → length (vertices_of rs ms) ≡ length rs
-length_vertices [] ms = refl
-length_vertices (r ∷ rs) ms = ap suc (length_vertices rs (drop r.degree ms))
-
 pub vertices_push : (rs : List Row) (r : Row) (ms : List Move) → r.degree ≡ 0 → vertices_of (rs ++ r ∷ []) ms ≡ vertices_of rs ms ++ vertex_with r [] ∷ []
 vertices_push [] r ms e = ap (λ k. vertex_with r (take k ms) ∷ []) e
 vertices_push (x ∷ rs) r ms e = ap (λ vs. vertex_with x (take x.degree ms) ∷ vs) (vertices_push rs r (drop x.degree ms) e)
@@ -32,12 +29,18 @@ pub count_vertices : (rs : List Row) (ms : List Move) → total rs ≤ length ms
 count_vertices [] ms h = refl
 count_vertices (r ∷ rs) ms h = omega (arith, length-take-le r.degree ms (omega arith), count_vertices rs (drop r.degree ms) (omega (arith, length-drop r.degree ms)))
 
-pub nth_vertices : (rs : List Row) (ms : List Move) (k : ℕ) (r : Row) → slice_get rs k ≡ Some r → slice_get (vertices_of rs ms) k ≡ Some (vertex_with r (take r.degree (drop (total (take k rs)) ms)))
-nth_vertices [] ms k r e = absurd (let z : ◌≡◌ {A = ℕ} 0 1 = cc in omega arith)
-nth_vertices (x ∷ rs) ms zero r e = let same : x ≡ r = cc in ap (λ y. Some (vertex_with y (take y.degree ms))) same
-nth_vertices (x ∷ rs) ms (suc k) r e =
-    nth_vertices rs (drop x.degree ms) k r e
-    ∙ ap (λ t. Some (vertex_with r (take r.degree t))) (drop-drop (total (take k rs)) x.degree ms)
+-- the vertex of each row: its moves stand behind those of the rows before it
+pub nth_vertices : (rs : List Row) (ms : List Move) (k : ℕ) → slice_get (vertices_of rs ms) k ≡ option_map (λ r. vertex_with r (take r.degree (drop (total (take k rs)) ms))) (slice_get rs k)
+nth_vertices [] ms k = refl
+nth_vertices (x ∷ rs) ms zero = refl
+nth_vertices (x ∷ rs) ms (suc k) =
+    nth_vertices rs (drop x.degree ms) k ∙ by_row (slice_get rs k)
+  where
+    by_row : (o : Option Row) →
+        option_map (λ r. vertex_with r (take r.degree (drop (total (take k rs)) (drop x.degree ms)))) o
+        ≡ option_map (λ r. vertex_with r (take r.degree (drop (x.degree + total (take k rs)) ms))) o
+    by_row None = refl
+    by_row (Some r) = ap (λ t. Some (vertex_with r (take r.degree t))) (drop-drop (total (take k rs)) x.degree ms)
 
 module _ {A : Type 0} (ms : List A) (m : A) where
   -- an insertion past the first d leaves them, and is one in the rest
@@ -64,14 +67,14 @@ module _ {A : Type 0} (ms : List A) (m : A) where
 
 -- the moves of a row end among those of all rows
 pub ends_within : (rs : List Row) (k : ℕ) (r : Row) → slice_get rs k ≡ Some r → total (take k rs) + r.degree ≤ total rs
-ends_within [] k r e = absurd (let z : ◌≡◌ {A = ℕ} 0 1 = cc in omega arith)
+ends_within [] k r e = cc
 ends_within (x ∷ rs) zero r e = let same : x ≡ r = cc in omega (arith, ap (λ y. y.degree) same)
 ends_within (x ∷ rs) (suc k) r e = omega (arith, ends_within rs k r e)
 
 -- a move more at the vertex k, behind its others
 pub vertices_joined : (rs : List Row) (ms : List Move) (m : Move) (k : ℕ) (r : Row) → slice_get rs k ≡ Some r → total rs ≤ length ms →
     vertices_of (adjusted (with_degree (r.degree + 1)) rs k) (insert ms (total (take k rs) + r.degree) m) ≡ adjusted (with_move m) (vertices_of rs ms) k
-vertices_joined [] ms m k r e h = absurd (let z : ◌≡◌ {A = ℕ} 0 1 = cc in omega arith)
+vertices_joined [] ms m k r e h = cc
 vertices_joined (x ∷ rs) ms m zero r e h =
     let same : x ≡ r = cc in
     let low : r.degree ≤ length ms = omega (arith, ap (λ y. y.degree) same) in
@@ -116,7 +119,7 @@ module _ {A : Type 0} (ms : List A) where
 -- the move i of the vertex k less
 pub vertices_struck : (rs : List Row) (ms : List Move) (k i : ℕ) (r : Row) → slice_get rs k ≡ Some r → i < r.degree → total rs ≤ length ms →
     vertices_of (adjusted (with_degree (r.degree - 1)) rs k) (remove ms (total (take k rs) + i)) ≡ adjusted (without_move i) (vertices_of rs ms) k
-vertices_struck [] ms k i r e g h = absurd (let z : ◌≡◌ {A = ℕ} 0 1 = cc in omega arith)
+vertices_struck [] ms k i r e g h = cc
 vertices_struck (x ∷ rs) ms zero i r e g h =
     let same : x ≡ r = cc in
     let low : r.degree ≤ length ms = omega (arith, ap (λ y. y.degree) same) in

@@ -67,7 +67,7 @@ laid_end k [] e h = omega (arith, eqb-true k e h)
 laid_end k (r ∷ rs) e h = let p = and_parts (r.start == k) (laid (k + r.degree) rs e) h in omega (arith, laid_end (k + r.degree) rs e p.1)
 
 pub laid_start : (k : ℕ) (rs : List Row) (e i : ℕ) (r : Row) → laid k rs e ≡ true → slice_get rs i ≡ Some r → r.start ≡ k + total (take i rs)
-laid_start k [] e i r h is = absurd (let z : ◌≡◌ {A = ℕ} 0 1 = cc in omega arith)
+laid_start k [] e i r h is = cc
 laid_start k (x ∷ rs) e zero r h is =
     let same : x ≡ r = cc in
     let p = and_parts (x.start == k) (laid (k + x.degree) rs e) h in
@@ -85,6 +85,6 @@ laid_push k (x ∷ rs) e r h s z =
 
 -- how many moves there are once one row has another number of them
 pub total_resized : (rs : List Row) (i : ℕ) (r : Row) (k : ℕ) → slice_get rs i ≡ Some r → total (adjusted (with_degree k) rs i) + r.degree ≡ total rs + k
-total_resized [] i r k e = absurd (let z : ◌≡◌ {A = ℕ} 0 1 = cc in omega arith)
+total_resized [] i r k e = cc
 total_resized (x ∷ rs) zero r k e = let same : x ≡ r = cc in omega (arith, ap (λ y. y.degree) same)
 total_resized (x ∷ rs) (suc i) r k e = omega (arith, total_resized rs i r k e)
