@@ -7,18 +7,11 @@ use Rattle.chart.specs.Arena.{Arena, Ranged}
 use Rattle.game.specs.Reading.{colour_of, target_of, cost_of}
 use Rattle.game.specs.Voyages.{reached, worst_wait, highest_waiting}
 use Rattle.game.proofs.Readings.{cost_low}
-use Rattle.helm.specs.Tally.{greatest, grown, met, arrived, cleared, longest, highest_open}
+use Rattle.helm.specs.Tally.{greatest, grown, met, cleared, longest, highest_open}
 use Rattle.helm.specs.Calls.{half, waits_begun, waits_passed}
-use Rattle.helm.proofs.Entries.{length_arrived}
+use Rattle.helm.proofs.Entries.{length_arrived, get_or_arrived}
 use Rattle.helm.proofs.Oldest.{longer, oldest, oldest_push, met_none}
 use Rattle.helm.proofs.Worst.{worst_within, worst_grows, worst_met, highest_over, highest_met, oldest_coloured, oldest_bounded}
-
-get_or_arrived : (k q : ℕ) (xs : List ℕ) (i : ℕ) → i < length xs → get_or (arrived k q xs) i 0 ≡ met k (2 * i + q) (get_or xs i 0)
-get_or_arrived k q [] i h = absurd (omega arith)
-get_or_arrived k q (x ∷ xs) zero h = let e : q ≡ 2 * 0 + q = omega arith in ap (λ n. met k n x) e
-get_or_arrived k q (x ∷ xs) (suc i) h =
-    let e : 2 * i + (q + 2) ≡ 2 * suc i + q = omega arith in
-    get_or_arrived k (q + 2) xs i (omega arith) ∙ ap (λ n. met k n (get_or xs i 0)) e
 
 longest_within : (B : ℕ) (xs : List ℕ) → ((i : ℕ) → i < length xs → get_or xs i 0 ≤ suc B) → longest xs ≤ B
 longest_within B [] h = omega arith

@@ -2,6 +2,7 @@
 use Rattle.std.specs.Prelude.{ℕ, Ok, Err, Result}
 use Rattle.chart.specs.declared.refusal.Refusal.{Refusal}
 use Rattle.chart.specs.Refusals.{Outcome, done, refused, number_of, place_of}
+use Rattle.helm.specs.declared.turns.Standing.{Standing}
 use Rattle.helm.specs.declared.turns.OurTurn.{OurTurn}
 use Rattle.helm.specs.declared.turns.HarbourTurn.{HarbourTurn}
 use Rattle.helm.specs.declared.turns.Turn.{Turn}
@@ -18,13 +19,17 @@ pub record State : Type 0 where
   pub worst : ℕ
   pub waiting : ℕ
 
+-- The state at a turn, where the voyage stands so.
+abbrev pub state_at : ℕ → Standing → State
+state_at turn x = record { turn = turn; vertex = x.vertex; moves = x.record.moves; worst = x.record.worst; waiting = x.record.waiting }
+
 -- What our turn says.
 abbrev pub ours : OurTurn → State
-ours t = record { turn = 0; vertex = t.vertex; moves = t.moves; worst = t.worst; waiting = t.waiting }
+ours t = state_at 0 t.at
 
 -- What the harbour's turn says.
 abbrev pub harbours : HarbourTurn → State
-harbours t = record { turn = 1; vertex = t.vertex; moves = t.moves; worst = t.worst; waiting = t.waiting }
+harbours t = state_at 1 t.at
 
 -- What a turn of either kind says.
 abbrev pub state_of : Turn → State
@@ -54,3 +59,8 @@ steered (Err x) = stayed (number_of x.1) (place_of x.1) (ours x.0)
 abbrev pub heard : Result Turn (HarbourTurn × Refusal) → Reply
 heard (Ok t) = went (state_of t)
 heard (Err x) = stayed (number_of x.1) (place_of x.1) (harbours x.0)
+
+-- How a call from the state s ends, before the turn is given back.
+abbrev pub replied : State → Result Turn Refusal → Reply
+replied s (Ok t) = went (state_of t)
+replied s (Err e) = stayed (number_of e) (place_of e) s
