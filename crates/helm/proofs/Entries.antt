@@ -1,7 +1,8 @@
 -- The entries of a tally, after an arrival and as the calls read them.
-use Rattle.std.proofs.Common.{◌≡◌, ℕ, Option, Some, None, zero, suc, ◌+◌, ◌-◌, ◌*◌, ◌<◌, max, List, [], ◌∷◌, length, get_or, replicate, sym, refl, ap, ◌∙◌, arith}
+use Rattle.std.proofs.Common.{◌≡◌, ℕ, Option, Some, None, zero, suc, ◌+◌, ◌-◌, ◌*◌, ◌<◌, ◌≤◌, max, List, [], ◌∷◌, length, get_or, replicate, cond, eqb, subst, inl, inr, sym, refl, ap, ◌∙◌, arith}
 use Rattle.std.proofs.lemmas.List.{ext_get_or}
-use Rattle.std.proofs.lemmas.Bool.{ne_eqb}
+use Rattle.std.proofs.lemmas.Bool.{cases_lt}
+use Rattle.std.proofs.lemmas.Bool.Decides.{nat_tests}
 use Rattle.std.proofs.lemmas.Simd.{splat_is_map}
 use Rattle.std.specs.List.{fold}
 use Rattle.helm.specs.Tally.{met, arrived, cleared, longest, highest_open}
@@ -31,20 +32,33 @@ longest_by_fold xs = go 0 xs ∙ (omega arith)
     go a [] = omega arith
     go a (x ∷ xs) = let e = go (max a (x - 1)) xs in omega arith
 
--- where no entry waits, and where i is the last that does
-highest_none : (q : ℕ) (xs : List ℕ) → ((j : ℕ) → j < length xs → get_or xs j 0 ≡ 0) → 0 ≡ highest_open q xs
-highest_none q [] h = refl
-highest_none q (x ∷ xs) h = let e = h 0 (omega arith) in let f = highest_none (q + 2) xs (λ j l. h (suc j) (omega arith)) in rw e (omega arith)
+pub highest_open_over : (q : ℕ) (xs : List ℕ) (i : ℕ) → i < length xs → 0 < get_or xs i 0 → 2 * i + q ≤ highest_open q xs
+highest_open_over q [] i h k = absurd (omega arith)
+highest_open_over q (x ∷ xs) zero h k = let e : cond (eqb x 0) 0 q ≡ q = grind (arith, nat_tests) in omega arith
+highest_open_over q (x ∷ xs) (suc i) h k = let r = highest_open_over (q + 2) xs i (omega arith) k in omega arith
 
-highest_last : (q : ℕ) (xs : List ℕ) (i : ℕ) → i < length xs → 0 < get_or xs i 0 → ((j : ℕ) → i < j → j < length xs → get_or xs j 0 ≡ 0) → 2 * i + q ≡ highest_open q xs
-highest_last q [] i l w h = absurd (omega arith)
-highest_last q (x ∷ xs) zero l w h =
-    let e = highest_none (q + 2) xs (λ j k. h (suc j) (omega arith) (omega arith)) in
-    let f = ne_eqb x 0 (λ (z : x ≡ 0). absurd (omega arith)) in
-    rw f (omega arith)
-highest_last q (x ∷ xs) (suc i) l w h =
-    let e = highest_last (q + 2) xs i (omega arith) w (λ j k k2. h (suc j) (omega arith) (omega arith)) in
-    grind (arith, e)
+-- the entry of the highest open colour
+pub record Open (q : ℕ) (xs : List ℕ) (top : ℕ) : Type 0 where
+  pub at : ℕ
+  pub low : at < length xs
+  pub is : top ≡ 2 * at + q
+  pub waits : 0 < get_or xs at 0
+
+pub highest_open_met : (q : ℕ) (xs : List ℕ) → 0 < highest_open q xs → Open q xs (highest_open q xs)
+highest_open_met q [] h = absurd (omega arith)
+highest_open_met q (x ∷ xs) h = go x (highest_open (q + 2) xs) (highest_open_met (q + 2) xs) h
+  where
+    rest : (x top : ℕ) → Open (q + 2) xs top → Open q (x ∷ xs) top
+    rest x top o = record { at = suc o.at; low = (let l = o.low in omega arith); is = (let e = o.is in omega arith); waits = o.waits }
+
+    go : (x top : ℕ) → (0 < top → Open (q + 2) xs top) → 0 < max (cond (eqb x 0) 0 q) top → Open q (x ∷ xs) (max (cond (eqb x 0) 0 q) top)
+    go zero top o h = let e : top ≡ max 0 top = omega arith in subst (Open q (zero ∷ xs)) e (rest zero top (o (omega arith)))
+    go (suc x) top o h =
+        let c : cond (eqb (suc x) 0) 0 q ≡ q = grind (arith, nat_tests) in
+        elim (cases_lt q top) [
+          | inl l ↦ let e : top ≡ max (cond (eqb (suc x) 0) 0 q) top = omega arith in subst (Open q (suc x ∷ xs)) e (rest (suc x) top (o (omega arith)))
+          | inr l ↦ record { at = 0; low = omega arith; is = omega arith; waits = omega arith }
+        ]
 
 -- the colour of the last entry that waits, where one does
 pub record LastWaits (xs : List ℕ) (n i : ℕ) : Type 0 where
@@ -55,5 +69,12 @@ pub record LastWaits (xs : List ℕ) (n i : ℕ) : Type 0 where
 
 pub highest_is : (xs : List ℕ) (n : ℕ) (last : Option ℕ) → ((i : ℕ) → last ≡ Some i → LastWaits xs n i) →
     (last ≡ None → (n ≡ 0) × ((j : ℕ) → j < length xs → get_or xs j 0 ≡ 0)) → n ≡ highest_open 1 xs
-highest_is xs n (Some i) some none = let x = some i refl in x.colour ∙ highest_last 1 xs i x.within x.waits x.others
-highest_is xs n None some none = let x = none refl in x.0 ∙ highest_none 1 xs x.1
+highest_is xs n (Some i) some none =
+    let x = some i refl in
+    let up = highest_open_over 1 xs i x.within x.waits in
+    let o = highest_open_met 1 xs (omega arith) in
+    elim (cases_lt i o.at) [ inl l ↦ let z = x.others o.at l o.low in omega (arith, o.waits) | inr l ↦ omega (arith, x.colour, o.is) ]
+highest_is xs n None some none = elim (cases_lt 0 (highest_open 1 xs)) [
+  | inl l ↦ let o = highest_open_met 1 xs l in let z = (none refl).1 o.at o.low in omega (arith, o.waits)
+  | inr l ↦ omega (arith, (none refl).0)
+]

@@ -15,7 +15,7 @@ use Rattle.game.proofs.Readings.{row_is, row_past, degree_is, target_is, cost_is
 nth_none : {A : Type 0} (xs : List A) (i : ℕ) (d : A) → slice_get xs i ≡ None → length xs ≤ i
 nth_none xs i d e = elim (dec_le (length xs) i) [
   | yes h ↦ h
-  | no h ↦ absurd (let k = slice_get-get_or xs i d (omega arith) in cc)
+  | no h ↦ let k = slice_get-get_or xs i d (omega arith) in cc
 ]
 
 module _ (a : Arena) (v : ℕ) where
