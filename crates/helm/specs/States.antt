@@ -2,7 +2,6 @@
 use Rattle.std.specs.Prelude.{ℕ, Ok, Err, Result}
 use Rattle.chart.specs.declared.refusal.Refusal.{Refusal}
 use Rattle.chart.specs.Refusals.{Outcome, done, refused, number_of, place_of}
-use Rattle.helm.specs.declared.turns.Standing.{Standing}
 use Rattle.helm.specs.declared.turns.OurTurn.{OurTurn}
 use Rattle.helm.specs.declared.turns.HarbourTurn.{HarbourTurn}
 use Rattle.helm.specs.declared.turns.Turn.{Turn}
@@ -19,17 +18,17 @@ pub record State : Type 0 where
   pub worst : ℕ
   pub waiting : ℕ
 
--- The state at a turn, where the voyage stands so.
-abbrev pub state_at : ℕ → Standing → State
-state_at turn x = record { turn = turn; vertex = x.vertex; moves = x.record.moves; worst = x.record.worst; waiting = x.record.waiting }
+-- The state at a turn, a vertex and the record so far.
+abbrev pub state_at : ℕ → ℕ → Record → State
+state_at turn vertex r = record { turn = turn; vertex = vertex; moves = r.moves; worst = r.worst; waiting = r.waiting }
 
 -- What our turn says.
 abbrev pub ours : OurTurn → State
-ours t = state_at 0 t.at
+ours t = state_at 0 t.at.vertex t.at.so_far
 
 -- What the harbour's turn says.
 abbrev pub harbours : HarbourTurn → State
-harbours t = state_at 1 t.at
+harbours t = state_at 1 t.at.vertex t.at.so_far
 
 -- What a turn of either kind says.
 abbrev pub state_of : Turn → State

@@ -40,11 +40,12 @@ fn owner_at<C: Chart>(chart: &C, vertex: usize) -> Player
     chart.owner(vertex).unwrap_or(Player::Controller)
 }
 
-/// The player's turn where the voyage stands.
-fn turn_of(player: Player, at: Standing) -> Turn
-    ensures { state_of result ≡ state_at (numbered player) at }
+/// The turn of whoever owns the vertex reached, with the record so far.
+fn turn_at<C: Chart>(chart: &C, vertex: usize, so_far: Record) -> Turn
+    ensures { state_of result ≡ state_at (owner_of (C.Chart.meaning chart.now) vertex) vertex so_far }
 {
-    match player {
+    let at = Standing { vertex, so_far };
+    match owner_at(chart, vertex) {
         Player::Controller => Turn::Ours(OurTurn { at }),
         Player::Harbour => Turn::Harbours(HarbourTurn { at }),
     }
@@ -53,7 +54,8 @@ fn turn_of(player: Player, at: Standing) -> Turn
 /// Makes a move: the tally's used entries wait through it and arrive, and the
 /// turn is the owner's of the vertex arrived at.
 fn sail<C: Chart>(chart: &C, tally: &mut [u64], step: Move, so_far: Record) -> Turn
-    requires { (half_of (C.Chart.meaning chart.now) ≤ length tally.old) × (so_far.moves < 1000000) }
+    requires room { half_of (C.Chart.meaning chart.now) ≤ length tally.old }
+    requires not_spent { so_far.moves < 1000000 }
     ensures answer { state_of result ≡ sailed (C.Chart.meaning chart.now) step.target step.cost so_far.moves so_far.worst tally.old }
     ensures after { tally.new ≡ on_first (half_of (C.Chart.meaning chart.now)) (waits_passed step.cost (colour_of (C.Chart.meaning chart.now) step.target)) tally.old }
 {
@@ -65,17 +67,11 @@ fn sail<C: Chart>(chart: &C, tally: &mut [u64], step: Move, so_far: Record) -> T
         worst: so_far.worst.max(longest),
         waiting: highest(&tally[..used]),
     };
-    turn_of(
-        owner_at(chart, target),
-        Standing {
-            vertex: target,
-            record,
-        },
-    )
+    turn_at(chart, target, record)
 }
 
-/// Makes the move of that number from where the voyage stands. Refuses a move that
-/// the vertex lacks as told, and the 1,000,001st.
+/// Makes the move of that number from where the voyage stands, and gives the next turn.
+/// Refuses a move that the vertex lacks, by the refusal given, and the 1,000,001st.
 fn move_on<C: Chart>(
     at: Standing,
     chart: &C,
@@ -85,14 +81,14 @@ fn move_on<C: Chart>(
 ) -> Result<Turn, Refusal>
     requires room { half_of (C.Chart.meaning chart.now) ≤ length tally.old }
     requires no_place { place_of lacking ≡ 0 }
-    ensures answer { (turn : ℕ) → replied (state_at turn at) result ≡ moving (C.Chart.meaning chart.now) (state_at turn at) number tally.old (number_of lacking) }
-    ensures after { (turn : ℕ) → tally.new ≡ tally_left (replied (state_at turn at) result) (tally_moved (C.Chart.meaning chart.now) (state_at turn at) number tally.old) tally.old }
+    ensures answer { (turn : ℕ) → replied (state_at turn at.vertex at.so_far) result ≡ moving (C.Chart.meaning chart.now) (state_at turn at.vertex at.so_far) number tally.old (number_of lacking) }
+    ensures after { (turn : ℕ) → tally.new ≡ tally_left (replied (state_at turn at.vertex at.so_far) result) (tally_moved (C.Chart.meaning chart.now) (state_at turn at.vertex at.so_far) number tally.old) tally.old }
 {
     let step = chart.move_at(at.vertex, number).ok_or(lacking)?;
-    if at.record.moves >= MOST_MOVES {
+    if at.so_far.moves >= MOST_MOVES {
         return Err(Refusal::TooManySteps);
     }
-    Ok(sail(chart, tally, step, at.record))
+    Ok(sail(chart, tally, step, at.so_far))
 }
 
 /// Begins a voyage at a marked vertex: clears the tally's used entries, opens
@@ -119,14 +115,7 @@ pub fn begin<C: Chart>(
         worst: 0,
         waiting: highest(&tally[..used]),
     };
-    let turn = turn_of(
-        owner_at(chart, start),
-        Standing {
-            vertex: start,
-            record,
-        },
-    );
-    Ok((turn, Slip { seal: () }))
+    Ok((turn_at(chart, start, record), Slip { seal: () }))
 }
 
 /// Makes the plan's move and gives the next turn. A refusal gives the turn back.
@@ -179,7 +168,7 @@ pub fn hear<C: Chart>(
 impl Turn {
     /// Where the voyage stands, at either turn.
     fn at(&self) -> Standing
-        ensures { state_of self.now ≡ state_at (state_of self.now).turn result }
+        ensures { state_of self.now ≡ state_at (state_of self.now).turn result.vertex result.so_far }
     {
         match self {
             Turn::Ours(OurTurn { at }) | Turn::Harbours(HarbourTurn { at }) => *at,
@@ -199,5 +188,5 @@ pub fn finish(turn: Turn, slip: Slip) -> Record
     ensures { result ≡ finished (state_of turn) }
 {
     let Slip { seal: _ } = slip;
-    turn.at().record
+    turn.at().so_far
 }

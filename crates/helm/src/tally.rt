@@ -21,7 +21,8 @@ fn grow_all(waits: &mut [u64], cost: u32)
     }
 }
 
-/// The entry of the colour `own` after an arrival at `colour`.
+/// The entry of the colour `own` after an arrival at `colour`. The type of `own` is wide
+/// enough for every entry of a tally, however long.
 fn meet(colour: u8, own: u128, entry: u64) -> u64
     ensures { result ≡ met colour own entry }
 {

@@ -2,7 +2,7 @@
 #[derive(Clone, Copy)]
 pub(crate) struct Standing {
     pub(crate) vertex: usize,
-    pub(crate) record: Record,
+    pub(crate) so_far: Record,
 }
 
 /// Our turn: the voyage stands at a vertex of the controller, and only `steer` goes on.

@@ -10,7 +10,7 @@ pub returns-in_err-step-clause-answer : goal.returns-in_err-step-clause-answer
 returns-in_err-step-clause-answer g c turn =
     let a = g.C.Chart.meaning c.args.chart.now in
     let none : None ≡ c.move_at.result = search rules in
-    let e = moving_absent a (state_at turn c.args.at) c.args.number c.args.tally.now (number_of c.args.lacking)
+    let e = moving_absent a (state_at turn c.args.at.vertex c.args.at.so_far) c.args.number c.args.tally.now (number_of c.args.lacking)
     (move_none a c.args.at.vertex c.args.number (none ∙ c.move_at.ensures)) in
     let p = c.requires.no_place in
     grind (arith, e)
@@ -18,7 +18,7 @@ returns-in_err-step-clause-answer g c turn =
 pub returns-then-at-ge-MOST_MOVES-clause-answer : goal.returns-then-at-ge-MOST_MOVES-clause-answer
 returns-then-at-ge-MOST_MOVES-clause-answer g c turn =
     let a = g.C.Chart.meaning c.args.chart.now in
-    let s = state_at turn c.args.at in
+    let s = state_at turn c.args.at.vertex c.args.at.so_far in
     let y = c.in_ok-step.step in
     let some : Some y ≡ c.move_at.result = search rules in
     let is = move_some a s.vertex c.args.number y (some ∙ c.move_at.ensures) in
@@ -30,5 +30,5 @@ returns g c =
     let y = c.in_ok-step.step in
     let some : Some y ≡ c.move_at.result = search rules in
     let is = move_some a c.args.at.vertex c.args.number y (some ∙ c.move_at.ensures) in
-    let z = λ (turn : ℕ). goes a (state_at turn c.args.at) c.args.number (number_of c.args.lacking) c.args.tally.now y is (omega arith) _ c.sail.ensures.answer _ c.sail.ensures.after in
+    let z = λ (turn : ℕ). goes a (state_at turn c.args.at.vertex c.args.at.so_far) c.args.number (number_of c.args.lacking) c.args.tally.now y is (omega arith) _ c.sail.ensures.answer _ c.sail.ensures.after in
     record { answer = λ turn. (z turn).answer; after = λ turn. (z turn).after }
