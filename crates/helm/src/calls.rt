@@ -60,12 +60,12 @@ fn sail<C: Chart>(chart: &C, tally: &mut [u64], step: Move, so_far: Record) -> T
     ensures after { tally.new ≡ on_first (half_of (C.Chart.meaning chart.now)) (waits_passed step.cost (colour_of (C.Chart.meaning chart.now) step.target)) tally.old }
 {
     let Move { target, cost } = step;
-    let used = half(chart);
-    let longest = pass(&mut tally[..used], cost, colour_at(chart, target));
+    let waits = &mut tally[..half(chart)];
+    let longest = pass(waits, cost, colour_at(chart, target));
     let record = Record {
         moves: so_far.moves + 1,
         worst: so_far.worst.max(longest),
-        waiting: highest(&tally[..used]),
+        waiting: highest(waits),
     };
     turn_at(chart, target, record)
 }
@@ -109,11 +109,12 @@ pub fn begin<C: Chart>(
     if start >= chart.size() || marks[start] != MARKED {
         return Err(Refusal::UnmarkedStart);
     }
-    open(&mut tally[..used], colour_at(chart, start));
+    let waits = &mut tally[..used];
+    open(waits, colour_at(chart, start));
     let record = Record {
         moves: 0,
         worst: 0,
-        waiting: highest(&tally[..used]),
+        waiting: highest(waits),
     };
     Ok((turn_at(chart, start, record), Slip { seal: () }))
 }
