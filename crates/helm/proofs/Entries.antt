@@ -1,58 +1,80 @@
--- The turns of the loops over a tally's entries.
-use Rattle.std.proofs.Common.{◌≡◌, ℕ, suc, ◌+◌, ◌-◌, ◌*◌, ◌<◌, ◌≤◌, max, cond, eqb, List, [], ◌∷◌, ◌++◌, map, length, get_or, take, drop, set, sym, refl, ap, ◌∙◌, arith}
-use Rattle.std.proofs.lemmas.List.{append-nil, append_assoc, length-take-le, take_all, drop_all, take_more, drop_more, get_or_default, get_or_at, set_at}
-use Rattle.std.proofs.lemmas.List.Edits.{map_over_more}
-use Rattle.helm.specs.Tally.{met, arrived, longest, highest_open}
-
-module _ (f : ℕ → ℕ) (xs ys : List ℕ) (i : ℕ) (e : ys ≡ map f (take i xs) ++ drop i xs) where
-  pub written_more : i < length xs → i < length ys → set ys i (f (get_or ys i 0)) ≡ map f (take (i + 1) xs) ++ drop (i + 1) xs
-  written_more h k = map_over_more f xs ys i (get_or ys i 0) h e (get_or_default ys i 0 (get_or ys i 0) k)
-
-  pub written_all : length xs ≤ i → ys ≡ map f xs
-  written_all h = e ∙ (ap (λ zs. map f (take i xs) ++ zs) (drop_all i xs h) ∙ (append-nil (map f (take i xs)) ∙ ap (map f) (take_all i xs h)))
+-- The entries of a tally, after an arrival and as the calls read them.
+use Rattle.std.proofs.Common.{◌≡◌, ℕ, Option, Some, None, zero, suc, ◌+◌, ◌-◌, ◌*◌, ◌<◌, ◌≤◌, max, List, [], ◌∷◌, length, get_or, replicate, cond, eqb, subst, inl, inr, sym, refl, ap, ◌∙◌, arith}
+use Rattle.std.proofs.lemmas.List.{ext_get_or}
+use Rattle.std.proofs.lemmas.Bool.{cases_lt}
+use Rattle.std.proofs.lemmas.Bool.Decides.{nat_tests}
+use Rattle.std.proofs.lemmas.Simd.{splat_is_map}
+use Rattle.std.specs.List.{fold}
+use Rattle.helm.specs.Tally.{met, arrived, cleared, longest, highest_open}
 
 pub length_arrived : (k q : ℕ) (xs : List ℕ) → length (arrived k q xs) ≡ length xs
 length_arrived k q [] = refl
 length_arrived k q (x ∷ xs) = ap suc (length_arrived k (q + 2) xs)
 
-arrived_push : (k q : ℕ) (xs : List ℕ) (y : ℕ) → arrived k q (xs ++ y ∷ []) ≡ arrived k q xs ++ met k (2 * length xs + q) y ∷ []
-arrived_push k q [] y = let e : q ≡ 2 * 0 + q = omega arith in ap (λ n. met k n y ∷ []) e
-arrived_push k q (x ∷ xs) y =
-    let e : 2 * length xs + (q + 2) ≡ 2 * suc (length xs) + q = omega arith in
-    ap (λ zs. met k q x ∷ zs) (arrived_push k (q + 2) xs y ∙ ap (λ n. arrived k (q + 2) xs ++ met k n y ∷ []) e)
+pub get_or_arrived : (k q : ℕ) (xs : List ℕ) (i : ℕ) → i < length xs → get_or (arrived k q xs) i 0 ≡ met k (2 * i + q) (get_or xs i 0)
+get_or_arrived k q [] i h = absurd (omega arith)
+get_or_arrived k q (x ∷ xs) zero h = let e : q ≡ 2 * 0 + q = omega arith in ap (λ n. met k n x) e
+get_or_arrived k q (x ∷ xs) (suc i) h =
+    let e : 2 * i + (q + 2) ≡ 2 * suc i + q = omega arith in
+    get_or_arrived k (q + 2) xs i (omega arith) ∙ ap (λ n. met k n (get_or xs i 0)) e
 
-module _ (k : ℕ) (xs ys : List ℕ) (i : ℕ) (e : ys ≡ arrived k 1 (take i xs) ++ drop i xs) where
-  pub arrived_more : i < length xs → set ys i (met k (2 * i + 1) (get_or ys i 0)) ≡ arrived k 1 (take (i + 1) xs) ++ drop (i + 1) xs
-  arrived_more h =
-      let y = get_or xs i 0 in
-      let front = arrived k 1 (take i xs) in
-      let long : length (take i xs) ≡ i = length-take-le i xs (omega arith) in
-      let wide : length front ≡ i = length_arrived k 1 (take i xs) ∙ long in
-      let is : ys ≡ front ++ y ∷ drop (i + 1) xs = e ∙ ap (λ zs. front ++ zs) (drop_more xs i 0 h) in
-      let here : get_or ys i 0 ≡ y = ap (λ zs. get_or zs i 0) is ∙ get_or_at front y (drop (i + 1) xs) 0 i wide in
-      let more : arrived k 1 (take (i + 1) xs) ≡ front ++ met k (2 * i + 1) y ∷ [] =
-      ap (arrived k 1) (take_more xs i 0 h) ∙ (arrived_push k 1 (take i xs) y ∙ ap (λ n. front ++ met k (2 * n + 1) y ∷ []) long) in
-      ap (λ z. set ys i (met k (2 * i + 1) z)) here
-      ∙ (ap (λ zs. set zs i (met k (2 * i + 1) y)) is
-      ∙ (set_at front y (drop (i + 1) xs) (met k (2 * i + 1) y) i wide
-      ∙ (sym (append_assoc front (met k (2 * i + 1) y ∷ []) (drop (i + 1) xs)) ∙ ap (λ zs. zs ++ drop (i + 1) xs) (sym more))))
+pub arrived_is : (k : ℕ) (xs ys : List ℕ) → length ys ≡ length xs → ((i : ℕ) → i < length xs → get_or ys i 0 ≡ met k (2 * i + 1) (get_or xs i 0)) → ys ≡ arrived k 1 xs
+arrived_is k xs ys l h = ext_get_or 0 ys (arrived k 1 xs) (l ∙ sym (length_arrived k 1 xs)) (λ i m. h i (omega arith) ∙ sym (get_or_arrived k 1 xs i (omega arith)))
 
-  pub arrived_all : length xs ≤ i → ys ≡ arrived k 1 xs
-  arrived_all h = e ∙ (ap (λ zs. arrived k 1 (take i xs) ++ zs) (drop_all i xs h) ∙ (append-nil (arrived k 1 (take i xs)) ∙ ap (arrived k 1) (take_all i xs h)))
+-- where all entries are written over by 0
+pub cleared_is : (xs : List ℕ) → replicate (length xs) 0 ≡ cleared xs
+cleared_is xs = splat_is_map xs (length xs) 0 refl
 
-module _ (xs : List ℕ) (i : ℕ) where
-  pub longest_more : (b : ℕ) → i < length xs → max b (longest (drop i xs)) ≡ longest xs → max (max b (get_or xs i 0 - 1)) (longest (drop (i + 1) xs)) ≡ longest xs
-  longest_more b h e =
-      let s : longest (drop i xs) ≡ max (get_or xs i 0 - 1) (longest (drop (i + 1) xs)) = ap longest (drop_more xs i 0 h) in
-      omega arith
+pub longest_by_fold : (xs : List ℕ) → fold (λ b x. max b (x - 1)) 0 xs ≡ longest xs
+longest_by_fold xs = go 0 xs ∙ (omega arith)
+  where
+    go : (a : ℕ) (xs : List ℕ) → fold (λ b x. max b (x - 1)) a xs ≡ max a (longest xs)
+    go a [] = omega arith
+    go a (x ∷ xs) = let e = go (max a (x - 1)) xs in omega arith
 
-  pub longest_all : (b : ℕ) → length xs ≤ i → max b (longest (drop i xs)) ≡ longest xs → b ≡ longest xs
-  longest_all b h e = let s : longest (drop i xs) ≡ 0 = ap longest (drop_all i xs h) in omega arith
+pub highest_open_over : (q : ℕ) (xs : List ℕ) (i : ℕ) → i < length xs → 0 < get_or xs i 0 → 2 * i + q ≤ highest_open q xs
+highest_open_over q [] i h k = absurd (omega arith)
+highest_open_over q (x ∷ xs) zero h k = let e : cond (eqb x 0) 0 q ≡ q = grind (arith, nat_tests) in omega arith
+highest_open_over q (x ∷ xs) (suc i) h k = let r = highest_open_over (q + 2) xs i (omega arith) k in omega arith
 
-  pub highest_more : i < length xs → highest_open (2 * i + 1) (drop i xs) ≡ max (cond (eqb (get_or xs i 0) 0) 0 (2 * i + 1)) (highest_open (2 * (i + 1) + 1) (drop (i + 1) xs))
-  highest_more h =
-      let e : 2 * i + 1 + 2 ≡ 2 * (i + 1) + 1 = omega arith in
-      ap (highest_open (2 * i + 1)) (drop_more xs i 0 h) ∙ ap (λ n. max (cond (eqb (get_or xs i 0) 0) 0 (2 * i + 1)) (highest_open n (drop (i + 1) xs))) e
+-- the entry of the highest open colour
+pub record Open (q : ℕ) (xs : List ℕ) (top : ℕ) : Type 0 where
+  pub at : ℕ
+  pub low : at < length xs
+  pub is : top ≡ 2 * at + q
+  pub waits : 0 < get_or xs at 0
 
-  pub highest_all : (q : ℕ) → length xs ≤ i → highest_open q (drop i xs) ≡ 0
-  highest_all q h = ap (highest_open q) (drop_all i xs h)
+pub highest_open_met : (q : ℕ) (xs : List ℕ) → 0 < highest_open q xs → Open q xs (highest_open q xs)
+highest_open_met q [] h = absurd (omega arith)
+highest_open_met q (x ∷ xs) h = go x (highest_open (q + 2) xs) (highest_open_met (q + 2) xs) h
+  where
+    rest : (x top : ℕ) → Open (q + 2) xs top → Open q (x ∷ xs) top
+    rest x top o = record { at = suc o.at; low = (let l = o.low in omega arith); is = (let e = o.is in omega arith); waits = o.waits }
+
+    go : (x top : ℕ) → (0 < top → Open (q + 2) xs top) → 0 < max (cond (eqb x 0) 0 q) top → Open q (x ∷ xs) (max (cond (eqb x 0) 0 q) top)
+    go zero top o h = let e : top ≡ max 0 top = omega arith in subst (Open q (zero ∷ xs)) e (rest zero top (o (omega arith)))
+    go (suc x) top o h =
+        let c : cond (eqb (suc x) 0) 0 q ≡ q = grind (arith, nat_tests) in
+        elim (cases_lt q top) [
+          | inl l ↦ let e : top ≡ max (cond (eqb (suc x) 0) 0 q) top = omega arith in subst (Open q (suc x ∷ xs)) e (rest (suc x) top (o (omega arith)))
+          | inr l ↦ record { at = 0; low = omega arith; is = omega arith; waits = omega arith }
+        ]
+
+-- the colour of the last entry that waits, where one does
+pub record LastWaits (xs : List ℕ) (n i : ℕ) : Type 0 where
+  pub within : i < length xs
+  pub waits : 0 < get_or xs i 0
+  pub others : (j : ℕ) → i < j → j < length xs → get_or xs j 0 ≡ 0
+  pub colour : n ≡ 2 * i + 1
+
+pub highest_is : (xs : List ℕ) (n : ℕ) (last : Option ℕ) → ((i : ℕ) → last ≡ Some i → LastWaits xs n i) →
+    (last ≡ None → (n ≡ 0) × ((j : ℕ) → j < length xs → get_or xs j 0 ≡ 0)) → n ≡ highest_open 1 xs
+highest_is xs n (Some i) some none =
+    let x = some i refl in
+    let up = highest_open_over 1 xs i x.within x.waits in
+    let o = highest_open_met 1 xs (omega arith) in
+    elim (cases_lt i o.at) [ inl l ↦ let z = x.others o.at l o.low in omega (arith, o.waits) | inr l ↦ omega (arith, x.colour, o.is) ]
+highest_is xs n None some none = elim (cases_lt 0 (highest_open 1 xs)) [
+  | inl l ↦ let o = highest_open_met 1 xs l in let z = (none refl).1 o.at o.low in omega (arith, o.waits)
+  | inr l ↦ omega (arith, (none refl).0)
+]

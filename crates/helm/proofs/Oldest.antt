@@ -91,8 +91,8 @@ module _ (a : Arena) (q : ℕ) where
       (oldest (target_of a v m) ms) e (oldest_low (target_of a v m) ms)
     where
       low_step : (b x u : Bool) (c w r : ℕ) → (not x && u) ≡ true → (u ≡ true → r ≤ suc w) → cond (b && (not x && u)) (suc (c + cond x 0 w)) r ≤ suc (c + cond x 0 w)
-      low_step b true u c w r e h = absurd (let z : ◌≡◌ {A = ℕ} 0 1 = cc in omega arith)
-      low_step b false false c w r e h = absurd (let z : ◌≡◌ {A = ℕ} 0 1 = cc in omega arith)
+      low_step b true u c w r e h = cc
+      low_step b false false c w r e h = cc
       low_step true false true c w r e h = omega arith
       low_step false false true c w r e h = let k = h refl in omega arith
 

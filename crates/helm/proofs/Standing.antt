@@ -125,7 +125,7 @@ module _ (a : Arena) (ran : Ranged a) (plan : List ℕ) (start : ℕ) where
   -- at our turn the move asked for is the plan's
   by_plan : (ms : List ℕ) (r : Run) (c : Call) → Stands ms r → r.state.turn ≡ turn_for c → owner_of a (reached a start ms) ≡ 0 → asked plan r c ≡ get_or plan (reached a start ms) 0
   by_plan ms r steer s t own = ap (λ v. get_or plan v 0) s.there
-  by_plan ms r (hear m) s t own = absurd (let e = s.turn in omega arith)
+  by_plan ms r (hear m) s t own = omega (arith, s.turn)
 
   stand_all : (ms : List ℕ) (r : Run) (cs : List Call) → Stands ms r → AsTurnsFall a plan r cs → Stands (ms ++ made a plan r cs) (after_all a plan r cs)
   stand_all ms r [] s f = subst (λ xs. Stands xs r) (sym (append-nil ms)) s
@@ -169,9 +169,9 @@ record Begun (a : Arena) (marks ts : List ℕ) (start : ℕ) (s : State) : Type 
 
 begun : (a : Arena) (marks ts : List ℕ) (start : ℕ) (s : State) → begin_outcome a marks ts start ≡ done s → Begun a marks ts start s
 begun a marks ts start s e = elim (cases_Bool (ltb (length marks) (size a) || ltb (length ts) (half a))) [
-  | inl f ↦ absurd (let g : begin_outcome a marks ts start ≡ refused 10 0 = cond-true _ _ _ f in let z : ◌≡◌ {A = ℕ} 0 1 = cc in omega arith)
+  | inl f ↦ let g : begin_outcome a marks ts start ≡ refused 10 0 = cond-true _ _ _ f in cc
   | inr f ↦ elim (cases_Bool (ltb start (size a) && eqb (get_or marks start 0) 1)) [
-    | inr g ↦ absurd (let k : begin_outcome a marks ts start ≡ refused 21 0 = cond-false _ _ _ f ∙ cond-false _ _ _ g in let z : ◌≡◌ {A = ℕ} 0 1 = cc in omega arith)
+    | inr g ↦ let k : begin_outcome a marks ts start ≡ refused 21 0 = cond-false _ _ _ f ∙ cond-false _ _ _ g in cc
     | inl g ↦
         let k : begin_outcome a marks ts start ≡ done (state_begun a start ts) = cond-false _ _ _ f ∙ cond-true _ _ _ g in
         record {

@@ -1,24 +1,15 @@
 -- What a tally tells whose entries are the oldest waits of a voyage.
-use Rattle.std.proofs.Common.{◌≡◌, ℕ, zero, suc, ◌+◌, ◌*◌, ◌/◌, ◌%◌, ◌<◌, ◌≤◌, min, max, cond, eqb, List, [], ◌∷◌, ◌++◌, map, length, get_or, sym, refl, ap, ◌∙◌, subst, inl, inr, arith}
+use Rattle.std.proofs.Common.{◌≡◌, ℕ, zero, suc, ◌+◌, ◌*◌, ◌/◌, ◌%◌, ◌<◌, ◌≤◌, min, max, cond, eqb, List, [], ◌∷◌, ◌++◌, map, length, get_or, sym, refl, ap, ◌∙◌, arith}
 use Rattle.std.proofs.lemmas.List.{get_or-map, length-map}
-use Rattle.std.proofs.lemmas.Bool.Decides.{nat_tests as tells}
-use Rattle.std.proofs.lemmas.Bool.{cases_lt}
 use Rattle.chart.specs.Arena.{Arena, Ranged}
 use Rattle.game.specs.Reading.{colour_of, target_of, cost_of}
 use Rattle.game.specs.Voyages.{reached, worst_wait, highest_waiting}
 use Rattle.game.proofs.Readings.{cost_low}
-use Rattle.helm.specs.Tally.{greatest, grown, met, arrived, cleared, longest, highest_open}
+use Rattle.helm.specs.Tally.{greatest, grown, met, cleared, longest, highest_open}
 use Rattle.helm.specs.Calls.{half, waits_begun, waits_passed}
-use Rattle.helm.proofs.Entries.{length_arrived}
+use Rattle.helm.proofs.Entries.{length_arrived, get_or_arrived, highest_open_over, highest_open_met}
 use Rattle.helm.proofs.Oldest.{longer, oldest, oldest_push, met_none}
 use Rattle.helm.proofs.Worst.{worst_within, worst_grows, worst_met, highest_over, highest_met, oldest_coloured, oldest_bounded}
-
-get_or_arrived : (k q : ℕ) (xs : List ℕ) (i : ℕ) → i < length xs → get_or (arrived k q xs) i 0 ≡ met k (2 * i + q) (get_or xs i 0)
-get_or_arrived k q [] i h = absurd (omega arith)
-get_or_arrived k q (x ∷ xs) zero h = let e : q ≡ 2 * 0 + q = omega arith in ap (λ n. met k n x) e
-get_or_arrived k q (x ∷ xs) (suc i) h =
-    let e : 2 * i + (q + 2) ≡ 2 * suc i + q = omega arith in
-    get_or_arrived k (q + 2) xs i (omega arith) ∙ ap (λ n. met k n (get_or xs i 0)) e
 
 longest_within : (B : ℕ) (xs : List ℕ) → ((i : ℕ) → i < length xs → get_or xs i 0 ≤ suc B) → longest xs ≤ B
 longest_within B [] h = omega arith
@@ -31,34 +22,6 @@ longest_over : (xs : List ℕ) (i : ℕ) → i < length xs → get_or xs i 0 ≤
 longest_over [] i h = absurd (omega arith)
 longest_over (x ∷ xs) zero h = omega arith
 longest_over (x ∷ xs) (suc i) h = let k = longest_over xs i (omega arith) in omega arith
-
-highest_open_over : (q : ℕ) (xs : List ℕ) (i : ℕ) → i < length xs → 0 < get_or xs i 0 → 2 * i + q ≤ highest_open q xs
-highest_open_over q [] i h k = absurd (omega arith)
-highest_open_over q (x ∷ xs) zero h k = let e : cond (eqb x 0) 0 q ≡ q = grind (arith, tells) in omega arith
-highest_open_over q (x ∷ xs) (suc i) h k = let r = highest_open_over (q + 2) xs i (omega arith) k in omega arith
-
--- the entry of the highest open colour
-record Open (q : ℕ) (xs : List ℕ) (top : ℕ) : Type 0 where
-  at : ℕ
-  low : at < length xs
-  is : top ≡ 2 * at + q
-  waits : 0 < get_or xs at 0
-
-highest_open_met : (q : ℕ) (xs : List ℕ) → 0 < highest_open q xs → Open q xs (highest_open q xs)
-highest_open_met q [] h = absurd (omega arith)
-highest_open_met q (x ∷ xs) h = go x (highest_open (q + 2) xs) (highest_open_met (q + 2) xs) h
-  where
-    rest : (x top : ℕ) → Open (q + 2) xs top → Open q (x ∷ xs) top
-    rest x top o = record { at = suc o.at; low = (let l = o.low in omega arith); is = (let e = o.is in omega arith); waits = o.waits }
-
-    go : (x top : ℕ) → (0 < top → Open (q + 2) xs top) → 0 < max (cond (eqb x 0) 0 q) top → Open q (x ∷ xs) (max (cond (eqb x 0) 0 q) top)
-    go zero top o h = let e : top ≡ max 0 top = omega arith in subst (Open q (zero ∷ xs)) e (rest zero top (o (omega arith)))
-    go (suc x) top o h =
-        let c : cond (eqb (suc x) 0) 0 q ≡ q = grind (arith, tells) in
-        elim (cases_lt q top) [
-          | inl l ↦ let e : top ≡ max (cond (eqb (suc x) 0) 0 q) top = omega arith in subst (Open q (suc x ∷ xs)) e (rest (suc x) top (o (omega arith)))
-          | inr l ↦ record { at = 0; low = omega arith; is = omega arith; waits = omega arith }
-        ]
 
 grown_longer : (c t : ℕ) → t + c ≤ greatest → grown c t ≡ longer c t
 grown_longer c zero h = refl

@@ -107,7 +107,7 @@ module _ (a : Arena) where
       where
         go : (b : Bool) → eqb (colour_of a v) q ≡ b → q ≤ highest_waiting a v []
         go true e = waits_highest v [] [] (eqb-true (colour_of a v) q e) refl
-        go false e = absurd (let z : 0 < 0 = rw e at h in omega arith)
+        go false e = let z : 0 < 0 = rw e at h in omega arith
     highest_over v (m ∷ ms) h = elim (oldest_cases a q v m ms) [
       | inl x ↦ waits_highest v (m ∷ ms) (still_waiting a (target_of a v m) ms) x.0 x.1
       | inr e ↦
@@ -155,7 +155,7 @@ module _ (a : Arena) where
       where
         go : (b : Bool) → eqb (colour_of a v) q ≡ b → q ≤ a.height
         go true e = let k = colour_low a r v in let is = eqb-true (colour_of a v) q e in omega arith
-        go false e = absurd (let z : 0 < 0 = rw e at h in omega arith)
+        go false e = let z : 0 < 0 = rw e at h in omega arith
     oldest_coloured v (m ∷ ms) h = elim (oldest_cases a q v m ms) [
       | inl x ↦ let k = colour_low a r v in let is = x.0 in omega arith
       | inr e ↦ oldest_coloured (target_of a v m) ms (omega arith)

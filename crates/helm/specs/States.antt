@@ -18,13 +18,17 @@ pub record State : Type 0 where
   pub worst : ℕ
   pub waiting : ℕ
 
+-- The state at a turn, a vertex and the record so far.
+abbrev pub state_at : ℕ → ℕ → Record → State
+state_at turn vertex r = record { turn = turn; vertex = vertex; moves = r.moves; worst = r.worst; waiting = r.waiting }
+
 -- What our turn says.
 abbrev pub ours : OurTurn → State
-ours t = record { turn = 0; vertex = t.vertex; moves = t.moves; worst = t.worst; waiting = t.waiting }
+ours t = state_at 0 t.at.vertex t.at.so_far
 
 -- What the harbour's turn says.
 abbrev pub harbours : HarbourTurn → State
-harbours t = record { turn = 1; vertex = t.vertex; moves = t.moves; worst = t.worst; waiting = t.waiting }
+harbours t = state_at 1 t.at.vertex t.at.so_far
 
 -- What a turn of either kind says.
 abbrev pub state_of : Turn → State
@@ -54,3 +58,8 @@ steered (Err x) = stayed (number_of x.1) (place_of x.1) (ours x.0)
 abbrev pub heard : Result Turn (HarbourTurn × Refusal) → Reply
 heard (Ok t) = went (state_of t)
 heard (Err x) = stayed (number_of x.1) (place_of x.1) (harbours x.0)
+
+-- How a call from the state s ends, before the turn is given back.
+abbrev pub replied : State → Result Turn Refusal → Reply
+replied s (Ok t) = went (state_of t)
+replied s (Err e) = stayed (number_of e) (place_of e) s

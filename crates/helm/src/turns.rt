@@ -1,19 +1,20 @@
+/// Where a voyage under way stands: the vertex reached, and the record so far.
+#[derive(Clone, Copy)]
+pub(crate) struct Standing {
+    pub(crate) vertex: usize,
+    pub(crate) so_far: Record,
+}
+
 /// Our turn: the voyage stands at a vertex of the controller, and only `steer` goes on.
 #[derive(Drop)]
 pub struct OurTurn {
-    pub(crate) vertex: usize,
-    pub(crate) moves: u32,
-    pub(crate) worst: u64,
-    pub(crate) waiting: u8,
+    pub(crate) at: Standing,
 }
 
 /// The harbour's turn: one hears its move first.
 #[derive(Drop)]
 pub struct HarbourTurn {
-    pub(crate) vertex: usize,
-    pub(crate) moves: u32,
-    pub(crate) worst: u64,
-    pub(crate) waiting: u8,
+    pub(crate) at: Standing,
 }
 
 /// Whoever's turn it is.
@@ -29,7 +30,7 @@ pub struct Slip {
     pub(crate) seal: (),
 }
 
-/// A finished voyage: the moves made, the worst wait, and the highest colour
+/// The record of a voyage: the moves made, the worst wait, and the highest colour
 /// still waiting, 0 for none.
 #[derive(Clone, Copy, PartialEq, Eq, Debug)]
 pub struct Record {

@@ -1,33 +1,56 @@
 // Crews that make whole voyages, and finish them whatever is refused.
 use chart::{Chart, Refusal};
-use helm::{HarbourTurn, OurTurn, Record, Turn, begin, finish, hear, steer};
+use helm::{Record, Turn, begin, finish, hear, steer};
 
-/// The next turn, or ours again where the call was refused.
-pub fn after_steer(answer: Result<Turn, (OurTurn, Refusal)>) -> Turn {
-    match answer {
-        Ok(next) => next,
-        Err((back, _)) => Turn::Ours(back),
+/// Who makes calls: on which chart and by which plan.
+#[derive(Drop)]
+pub struct Crew<'a, C> {
+    pub chart: &'a C,
+    pub plan: &'a [u16],
+}
+
+impl<'a, C: Chart> Crew<'a, C> {
+    /// One call: the plan's move at our turn, the number given at the harbour's. A refusal
+    /// gives the turn back.
+    fn try_call(
+        &self,
+        turn: Turn,
+        number: usize,
+        tally: &mut [u64],
+    ) -> Result<Turn, (Turn, Refusal)> {
+        match turn {
+            Turn::Ours(ours) => steer(ours, self.chart, self.plan, tally).map_err(|(
+                back,
+                refusal,
+            )| (Turn::Ours(back), refusal)),
+            Turn::Harbours(theirs) => hear(theirs, self.chart, number, tally).map_err(|(
+                back,
+                refusal,
+            )| (Turn::Harbours(back), refusal)),
+        }
+    }
+
+    /// The next turn after a call, or the same again where it was refused.
+    pub fn call(&self, turn: Turn, number: usize, tally: &mut [u64]) -> Turn {
+        self.try_call(turn, number, tally)
+            .unwrap_or_else(|(back, _)| back)
+    }
+
+    /// What a call refuses, and the turn after it.
+    pub fn refused(&self, turn: Turn, number: usize, tally: &mut [u64]) -> (Option<Refusal>, Turn) {
+        match self.try_call(turn, number, tally) {
+            Ok(next) => (None, next),
+            Err((back, refusal)) => (Some(refusal), back),
+        }
     }
 }
 
-pub fn after_hear(answer: Result<Turn, (HarbourTurn, Refusal)>) -> Turn {
-    match answer {
-        Ok(next) => next,
-        Err((back, _)) => Turn::Harbours(back),
-    }
-}
-
-/// One call: the plan's move at our turn, the number given at the harbour's.
-pub fn call<C: Chart>(
-    turn: Turn,
-    chart: &C,
-    plan: &[u16],
-    tally: &mut [u64],
-    number: usize,
-) -> Turn {
-    match turn {
-        Turn::Ours(ours) => after_steer(steer(ours, chart, plan, tally)),
-        Turn::Harbours(theirs) => after_hear(hear(theirs, chart, number, tally)),
+/// A record in short.
+pub fn told(moves: u32, worst: u64, waiting: u8) -> Record {
+    Record {
+        moves,
+        worst,
+        waiting,
     }
 }
 
@@ -39,19 +62,10 @@ pub fn voyage<C: Chart>(
     numbers: &[usize],
 ) -> Result<Record, Refusal> {
     let mut tally = [77; 4];
-    voyage_with(chart, plan, &mut tally, start, numbers)
-}
-
-fn voyage_with<C: Chart>(
-    chart: &C,
-    plan: &[u16],
-    tally: &mut [u64],
-    start: usize,
-    numbers: &[usize],
-) -> Result<Record, Refusal> {
-    let (mut turn, slip) = begin(chart, &[1; 8], tally, start)?;
+    let (mut turn, slip) = begin(chart, &[1; 8], &mut tally, start)?;
+    let crew = Crew { chart, plan };
     for number in numbers {
-        turn = call(turn, chart, plan, tally, *number);
+        turn = crew.call(turn, *number, &mut tally);
     }
     Ok(finish(turn, slip))
 }
@@ -64,16 +78,8 @@ pub fn refused_call<C: Chart, D: Chart>(
     tally: &mut [u64],
     number: usize,
 ) -> Result<(Option<Refusal>, Record), Refusal> {
-    let mut first = [0; 4];
-    let (turn, slip) = begin(chart, &[1; 8], &mut first, 0)?;
-    match turn {
-        Turn::Ours(ours) => match steer(ours, other, plan, tally) {
-            Ok(next) => Ok((None, finish(next, slip))),
-            Err((back, refusal)) => Ok((Some(refusal), finish(Turn::Ours(back), slip))),
-        },
-        Turn::Harbours(theirs) => match hear(theirs, other, number, tally) {
-            Ok(next) => Ok((None, finish(next, slip))),
-            Err((back, refusal)) => Ok((Some(refusal), finish(Turn::Harbours(back), slip))),
-        },
-    }
+    let (turn, slip) = begin(chart, &[1; 8], &mut [0; 4], 0)?;
+    let crew = Crew { chart: other, plan };
+    let (refusal, turn) = crew.refused(turn, number, tally);
+    Ok((refusal, finish(turn, slip)))
 }

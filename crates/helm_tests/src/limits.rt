@@ -1,8 +1,8 @@
 // The most moves, and the greatest 64-bit number.
 use super::charts::endless_wait;
-use super::crew::call;
+use super::crew::{Crew, told};
 use chart::{Chart, Refusal};
-use helm::{Record, Turn, begin, finish, hear, steer};
+use helm::{Record, begin, finish};
 use std::test::Fail;
 
 /// The refusals of one call more, with one plan entry or number and with another, and the record.
@@ -17,16 +17,14 @@ struct Last {
 /// move that is not there, and a call for one that is.
 fn last_calls<C: Chart>(chart: &C, moves: usize) -> Result<Last, Refusal> {
     let mut tally = [0; 4];
-    last_calls_with(chart, &mut tally, moves)
-}
-
-fn last_calls_with<C: Chart>(chart: &C, tally: &mut [u64], moves: usize) -> Result<Last, Refusal> {
-    let (mut turn, slip) = begin(chart, &[1], tally, 0)?;
+    let (mut turn, slip) = begin(chart, &[1], &mut tally, 0)?;
+    let crew = Crew { chart, plan: &[0] };
+    let other = Crew { chart, plan: &[1] };
     for _ in 0..moves {
-        turn = call(turn, chart, &[0], tally, 0);
+        turn = crew.call(turn, 0, &mut tally);
     }
-    let (wrong, turn) = refusal_of(turn, chart, &[1], tally, 1);
-    let (right, turn) = refusal_of(turn, chart, &[0], tally, 0);
+    let (wrong, turn) = other.refused(turn, 1, &mut tally);
+    let (right, turn) = crew.refused(turn, 0, &mut tally);
     Ok(Last {
         wrong,
         right,
@@ -34,31 +32,8 @@ fn last_calls_with<C: Chart>(chart: &C, tally: &mut [u64], moves: usize) -> Resu
     })
 }
 
-fn refusal_of<C: Chart>(
-    turn: Turn,
-    chart: &C,
-    plan: &[u16],
-    tally: &mut [u64],
-    number: usize,
-) -> (Option<Refusal>, Turn) {
-    match turn {
-        Turn::Ours(ours) => match steer(ours, chart, plan, tally) {
-            Ok(next) => (None, next),
-            Err((back, refusal)) => (Some(refusal), Turn::Ours(back)),
-        },
-        Turn::Harbours(theirs) => match hear(theirs, chart, number, tally) {
-            Ok(next) => (None, next),
-            Err((back, refusal)) => (Some(refusal), Turn::Harbours(back)),
-        },
-    }
-}
-
 fn endless(moves: u32, worst: u64) -> Record {
-    Record {
-        moves,
-        worst,
-        waiting: 1,
-    }
+    told(moves, worst, 1)
 }
 
 #[test]
@@ -92,9 +67,13 @@ fn handed_in(entry: u64) -> Result<(Record, [u64; 4]), Refusal> {
     let chart = endless_wait(0)?;
     let mut tally = [0; 4];
     let (turn, slip) = begin(&chart, &[1], &mut tally, 0)?;
-    let turn = call(turn, &chart, &[0], &mut tally, 0);
+    let crew = Crew {
+        chart: &chart,
+        plan: &[0],
+    };
+    let turn = crew.call(turn, 0, &mut tally);
     tally[0] = entry;
-    let turn = call(turn, &chart, &[0], &mut tally, 0);
+    let turn = crew.call(turn, 0, &mut tally);
     Ok((finish(turn, slip), tally))
 }
 

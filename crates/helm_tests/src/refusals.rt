@@ -1,6 +1,6 @@
 // Every refusal, in its order, and what it leaves.
 use super::charts::{answered_at_once, answered_or_put_off};
-use super::crew::refused_call;
+use super::crew::{refused_call, told};
 use chart::Refusal;
 use drawn::Drawn;
 use helm::{Record, begin, finish};
@@ -9,13 +9,8 @@ use std::test::Fail;
 /// What begin refuses at a start, on a chart of two vertices.
 fn begun(marks: &[u8], tally: &mut [u64], start: usize) -> Result<Option<Refusal>, Refusal> {
     let chart = answered_at_once()?;
-    match begin(&chart, marks, tally, start) {
-        Ok((turn, slip)) => {
-            finish(turn, slip);
-            Ok(None)
-        }
-        Err(refusal) => Ok(Some(refusal)),
-    }
+    let voyage = begin(&chart, marks, tally, start);
+    Ok(voyage.map(|(turn, slip)| finish(turn, slip)).err())
 }
 
 #[test]
@@ -57,11 +52,7 @@ fn begin_clears_the_used_entries_only(rt: HostRuntime) -> Result<(), Fail> {
 }
 
 fn unmoved(waiting: u8) -> Record {
-    Record {
-        moves: 0,
-        worst: 0,
-        waiting,
-    }
+    told(0, 0, waiting)
 }
 
 #[test]
@@ -112,14 +103,7 @@ fn no_call_asks_who_owns_the_vertex(rt: HostRuntime) -> Result<(), Fail> {
     let mut tally = [1, 0, 0, 0];
     let (refusal, record) = refused_call(&ours, &theirs, &[0, 0, 0], &mut tally, 0)?;
     assert_eq!(rt; refusal, None);
-    assert_eq!(rt;
-        record,
-        Record {
-            moves: 1,
-            worst: 5,
-            waiting: 1,
-        }
-    );
+    assert_eq!(rt; record, told(1, 5, 1));
     assert_eq!(rt; tally, [6, 0, 0, 0]);
     Ok(())
 }

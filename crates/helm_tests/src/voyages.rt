@@ -2,18 +2,10 @@
 use super::charts::{
     answered_at_once, answered_or_put_off, harbour_lingers_free, lower_request_waits_longer,
 };
-use super::crew::{call, voyage};
+use super::crew::{Crew, told, voyage};
 use chart::Refusal;
-use helm::{Record, begin, finish};
+use helm::{begin, finish};
 use std::test::Fail;
-
-fn told(moves: u32, worst: u64, waiting: u8) -> Record {
-    Record {
-        moves,
-        worst,
-        waiting,
-    }
-}
 
 #[test]
 fn every_request_is_answered_at_the_next_move(rt: HostRuntime) -> Result<(), Fail> {
@@ -82,10 +74,14 @@ fn stations(numbers: [usize; 2]) -> Result<[usize; 3], Refusal> {
     let plan = [0, 65535, 0];
     let mut tally = [0; 4];
     let (turn, slip) = begin(&chart, &[1; 3], &mut tally, 0)?;
+    let crew = Crew {
+        chart: &chart,
+        plan: &plan,
+    };
     let first = turn.vertex();
-    let turn = call(turn, &chart, &plan, &mut tally, numbers[0]);
+    let turn = crew.call(turn, numbers[0], &mut tally);
     let second = turn.vertex();
-    let turn = call(turn, &chart, &plan, &mut tally, numbers[1]);
+    let turn = crew.call(turn, numbers[1], &mut tally);
     let third = turn.vertex();
     finish(turn, slip);
     Ok([first, second, third])

@@ -1,16 +1,16 @@
 #![tactic(auto)]
 
-use anyhow::anyhow;
+use anyhow::Context;
+use crew::Crew;
 use drawn::Drawn;
 use helm::{begin, finish};
 use intake::fill;
 use orders::Orders;
 use std::env;
 use text::read;
-use turns::{make_calls, tell_turn};
 
+mod crew;
 mod orders;
-mod turns;
 
 /// No chart text is longer than 20,888 bytes; a longer input shows its first fault within this many.
 const MOST_BYTES: usize = 32768;
@@ -35,9 +35,7 @@ fn run(rt: &HostRuntime) -> anyhow::Result<()> {
 }
 
 fn sail(rt: &HostRuntime, chart: &Drawn) -> anyhow::Result<()> {
-    let Some(path) = env::args(rt)?.nth(1) else {
-        return Err(anyhow!("name a file of orders"));
-    };
+    let path = env::args(rt)?.nth(1).context("name a file of orders")?;
     let mut orders = Orders::open(rt, path.as_str())?;
     let start = orders.start()?;
     let plan = orders.plan()?;
@@ -45,8 +43,14 @@ fn sail(rt: &HostRuntime, chart: &Drawn) -> anyhow::Result<()> {
     let mut tally = [0u64; 4];
     match begin(chart, &marks, &mut tally, start) {
         Ok((turn, slip)) => {
-            let begun = tell_turn(rt, &turn);
-            let (turn, told) = make_calls(rt, chart, &plan, &mut tally, turn, &mut orders);
+            let mut crew = Crew {
+                rt,
+                chart,
+                plan,
+                tally,
+            };
+            let begun = crew.tell(&turn);
+            let (turn, told) = crew.make_calls(turn, &mut orders);
             let record = finish(turn, slip);
             begun?;
             told?;

@@ -1,8 +1,9 @@
 use anyhow::anyhow;
 use std::alloc::Global;
-use std::fs;
 use std::fs::File;
 use std::io::{BufRead, BufReader};
+use std::str::FromStr;
+use std::{fmt, fs};
 
 /// The plan's entry where there is no move to make.
 const EMPTY: u16 = 65535;
@@ -12,6 +13,31 @@ const EMPTY: u16 = 65535;
 pub enum Order {
     Steer,
     Hear(usize),
+}
+
+/// `steer` or `hear=MOVE`.
+impl FromStr for Order {
+    type Err = anyhow::Error;
+
+    fn from_str(order: &str) -> anyhow::Result<Order> {
+        if order == "steer" {
+            return Ok(Order::Steer);
+        }
+        let Some(number) = order.strip_prefix("hear=") else {
+            return Err(anyhow!("an order is neither steer nor hear="));
+        };
+        Ok(Order::Hear(number.parse::<usize>()?))
+    }
+}
+
+/// As the order is written.
+impl fmt::Display for Order {
+    fn fmt<W: fmt::Write>(&self, f: &mut fmt::Formatter<W>) -> fmt::Result {
+        match self {
+            Order::Steer => write!(f, "steer"),
+            Order::Hear(number) => write!(f, "hear={number}"),
+        }
+    }
 }
 
 /// A file of orders, read line by line: `start=VERTEX`, `plan=` with an entry for each vertex, `-`
@@ -45,15 +71,13 @@ impl Orders {
             return Err(anyhow!("the second order is no plan="));
         };
         let mut plan = [EMPTY; 128];
-        let mut vertex = 0usize;
-        for entry in entries.split(',') {
-            if vertex >= 128 {
+        for (vertex, entry) in entries.split(',').enumerate() {
+            let Some(planned) = plan.get_mut(vertex) else {
                 return Err(anyhow!("the plan has more entries than a chart has vertices"));
-            }
+            };
             if entry != "-" {
-                plan[vertex] = entry.parse::<u16>()?;
+                *planned = entry.parse::<u16>()?;
             }
-            vertex = vertex.saturating_add(1);
         }
         Ok(plan)
     }
@@ -61,23 +85,16 @@ impl Orders {
     /// The next call, or none at the end of the orders.
     pub fn call(&mut self) -> anyhow::Result<Option<Order>> {
         let line = self.line()?;
-        let order = line.as_str().trim();
-        if order.is_empty() {
-            return Ok(None);
+        match line.as_str().trim() {
+            "" => Ok(None),
+            order => Ok(Some(order.parse::<Order>()?)),
         }
-        if order == "steer" {
-            return Ok(Some(Order::Steer));
-        }
-        let Some(number) = order.strip_prefix("hear=") else {
-            return Err(anyhow!("an order is neither steer nor hear="));
-        };
-        Ok(Some(Order::Hear(number.parse::<usize>()?)))
     }
 
     /// The next line, empty at the end of the file.
     fn line(&mut self) -> anyhow::Result<String> {
         let mut line = String::new(self.heap);
-        let _ = self.file.read_line(&mut line)?;
+        self.file.read_line(&mut line)?;
         Ok(line)
     }
 }
