@@ -1,5 +1,5 @@
 -- The least number above the colours of a region, one position after another.
-use Rattle.std.proofs.Common.{ℕ, ◌+◌, ◌<◌, ◌≤◌, ap, arith}
+use Rattle.std.proofs.Common.{ℕ, ◌+◌, ◌<◌, max, ap, arith}
 use native.Mathlib.Decide.{ℕ_discrete}
 use Rattle.walks.specs.Games.{Game}
 use Rattle.parity.specs.Rounds.{Highest}
@@ -15,12 +15,12 @@ module _ (g : Game) (b n : ℕ) (t : ℕ → ℕ) (c : ℕ) (h : Highest g b n t
         least = λ e f. h.least e (λ p l. f p (omega arith));
       }
 
-  pub highest_up : t n < b → c ≤ g.colour n → Highest g b (n + 1) t (g.colour n + 1)
-  highest_up at up =
+  pub highest_more : t n < b → Highest g b (n + 1) t (max c (g.colour n + 1))
+  highest_more at =
       record {
         covers = λ p l k. elim (ℕ_discrete p n) [
           | yes e ↦ let x = ap g.colour e in omega arith
           | no d ↦ let z = h.covers p (omega arith) k in omega arith
         ];
-        least = λ e f. let z = f n (omega arith) at in omega arith;
+        least = λ e f. let y = h.least e (λ p l. f p (omega arith)) in let z = f n (omega arith) at in omega arith;
       }

@@ -1,5 +1,6 @@
 -- A sweep, one position after another.
-use Rattle.std.proofs.Common.{◌≡◌, ℕ, ◌+◌, ◌<◌, Bool, true, false, sym, refl, ◌∙◌, subst, inl, arith}
+use Rattle.std.proofs.Common.{◌≡◌, ℕ, ◌+◌, ◌<◌, Bool, true, false, ◌||◌, sym, refl, ◌∙◌, subst, inl, arith}
+use Rattle.std.proofs.Math.Bool.{or-true, or-false}
 use native.Mathlib.Decide.{ℕ_discrete}
 use Rattle.parity.specs.Boards.{Board}
 use Rattle.parity.specs.Sheets.{Sheet}
@@ -16,7 +17,7 @@ turned_low true n p h = omega arith
 turned_low false n p h = h
 
 module _ (b : Board) (i m : ℕ) (a z y : Sheet) (down : Bool) (p j : ℕ) (at : p ≡ turned down b.size j) (lt : p < b.size) (grew : Bool) (w : Swept b i m a z down j grew) where
-  pub swept_joins : (grown : Bool) → grown ≡ true → Tried b.game i m z y p true → Swept b i m a y down (j + 1) grown
+  swept_joins : (grown : Bool) → grown ≡ true → Tried b.game i m z y p true → Swept b i m a y down (j + 1) grown
   swept_joins grown e t =
       let u = t.joins refl in
       let less : outside m y.tag b.size < outside m z.tag b.size = outside_lt m z.tag y.tag b.size p
@@ -29,7 +30,7 @@ module _ (b : Board) (i m : ℕ) (a z y : Sheet) (down : Bool) (p j : ℕ) (at :
         shut = λ f. absurd (let no : ◌≡◌ {A = ℕ} 0 1 = cc in omega arith);
       }
 
-  pub swept_passes : (grown : Bool) → grown ≡ grew → Tried b.game i m z y p false → Swept b i m a y down (j + 1) grown
+  swept_passes : (grown : Bool) → grown ≡ grew → Tried b.game i m z y p false → Swept b i m a y down (j + 1) grown
   swept_passes grown e t =
       let u = t.stays refl in
       subst (λ s. Swept b i m a s down (j + 1) grown) (sym u.0) (subst (λ g. Swept b i m a z down (j + 1) g) (sym e)
@@ -45,6 +46,11 @@ module _ (b : Board) (i m : ℕ) (a z y : Sheet) (down : Bool) (p j : ℕ) (at :
         ];
       }))
 
+  -- whether p joins or not
+  pub swept_next : (joins : Bool) → Tried b.game i m z y p joins → Swept b i m a y down (j + 1) (grew || joins)
+  swept_next true t = swept_joins (grew || true) (or-true grew) t
+  swept_next false t = swept_passes (grew || false) (or-false grew) t
+
 pub swept_start : (b : Board) (i m : ℕ) (a : Sheet) (down : Bool) → Swept b i m a a down 0 false
 swept_start b i m a down =
     record {
@@ -54,7 +60,7 @@ swept_start b i m a down =
       shut = λ e q l h. absurd (omega arith);
     }
 
-pub drawing_none : (b : Board) (i m : ℕ) (a : Sheet) → Drawing b i m a a
+drawing_none : (b : Board) (i m : ℕ) (a : Sheet) → Drawing b i m a a
 drawing_none b i m a =
     record {
       rank = λ p. 0;
@@ -74,9 +80,9 @@ pub chased_then : (b : Board) (i m : ℕ) (a y z : Sheet) → Chased b i m a y �
 chased_then b i m a y z v w = record { draws = λ first d. w.draws first (v.draws first d) }
 
 -- a sweep in which nothing joined leaves nothing to draw in
-pub drawn_end : (b : Board) (i m : ℕ) (first a z : Sheet) (down : Bool) → Drawing b i m first a → Swept b i m a z down b.size false → Drawn b i m first z
+pub drawn_end : (b : Board) (i m : ℕ) (first a z : Sheet) (down : Bool) → Chased b i m first a → Swept b i m a z down b.size false → Drawn b i m first z
 drawn_end b i m first a z down d w =
     record {
-      drawing = w.draws first d;
+      drawing = w.draws first (d.draws first (drawing_none b i m first));
       shut = λ p l h. w.shut refl p l (turned_low down b.size p l) h;
     }

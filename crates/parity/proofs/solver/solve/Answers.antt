@@ -24,6 +24,6 @@ returns g c =
     record {
       answers = verdict_done b _ _ _ c.in_default.ensures (omega arith) (omega arith) (omega arith);
       settles = settled;
-      alone = sole_winners b (g.G.ParityGame.ranged c.args.game.now) _ _ settled;
+      alone = sole_winners b (g.met.G.ParityGame.ranged c.args.game.now) _ _ settled;
       spares = (search (rules, overwrites), search (rules, overwrites));
     }
