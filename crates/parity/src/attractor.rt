@@ -98,6 +98,7 @@ impl<'a, G: ParityGame> Workspace<'a, G> {
 
     /// Joins the position to the set if there is such a position and the player draws it in. Says
     /// whether it did.
+    #[tactic(auto, using(crate::proofs::Sweeps::tried_chased))]
     fn try_in(&mut self, attractor: Attractor, position: usize) -> bool
         ensures same { Same self.old self.new }
         ensures chased { Chased (board_of self.old) (numbered attractor.player) attractor.mark

@@ -57,12 +57,13 @@ impl<'a, G: ParityGame> Workspace<'a, G> {
     }
 
     /// The least number above every colour at a tag below the bound.
+    #[tactic(auto, using(crate::proofs::Highest::highest_same, crate::proofs::Highest::highest_more))]
     pub fn highest(&self, bound: u32) -> u32
         ensures { Highest (board_of self.now).game bound (board_of self.now).size (sheet_of self.now).tag result }
     {
         let mut least = 0;
-        for position in 0..self.tags.len() {
-            if self.tags[position] < bound {
+        for (position, tag) in self.tags.iter().enumerate() {
+            if *tag < bound {
                 least = least.max(u32::from(self.game.colour(position)) + 1);
             }
         }

@@ -28,6 +28,7 @@ impl<'a, G: ParityGame> Workspace<'a, G> {
     ghost use Rattle.parity.specs.Workspaces.{board_of, Same};
 
     /// Solves a game in which every position has a move, whatever the tables hold.
+    #[tactic(auto, using(crate::proofs::Settling::few_colours))]
     fn solve_all(&mut self, trail: &mut Trail<'_>)
         requires { (p : ℕ) → p < (board_of self.old).size → 0 < (board_of self.old).game.degree p }
         ensures same { Same self.old self.new }
@@ -63,6 +64,7 @@ fn settle<G: ParityGame>(game: &G, winners: &mut [u32], moves: &mut [u32], memor
 /// would do. Refuses a game in which a
 /// position has no move, tables with less than one number for each position, and memory with less
 /// than eight; a refused call changes neither table, and nothing is written past the positions.
+#[tactic(auto, using(crate::proofs::Settling::has_move, crate::proofs::Settling::settled_longer))]
 pub fn solve<G: ParityGame>(
     game: &G,
     winners: &mut [u32],
@@ -85,10 +87,7 @@ pub fn solve<G: ParityGame>(
         return Err(Refusal::DeadEnd(position));
     }
     let size = game.size();
-    if winners.len() < size {
-        return Err(Refusal::ShortTable);
-    }
-    if moves.len() < size {
+    if winners.len() < size || moves.len() < size {
         return Err(Refusal::ShortTable);
     }
     if memory.len() < MEMORY * size {

@@ -1,8 +1,8 @@
-use Rattle.std.proofs.Common.{◌≡◌, ℕ, ◌-◌, ap, ◌∙◌, get_or, arith, rules}
+use Rattle.std.proofs.Common.{ℕ, ◌-◌, ap, ◌∙◌, get_or, arith, rules}
 use Rattle.chart.specs.Players.{numbered}
 use Rattle.parity.specs.Workspaces.{board_of, sheet_of}
 use Rattle.parity.proofs.Topped.{Topped}
-use Rattle.parity.proofs.Steps.{step_start, step_topped, step_below, step_over, step_again, step_less, step_last_below, step_last}
+use Rattle.parity.proofs.Steps.{step_topped, step_below, step_over, step_again, step_less, step_last_below, step_last}
 use Rattle.parity.proofs.workspace.Workspace.+solve_region.Goals as goal
 use Rattle.parity.proofs.workspace.Workspace.+solve_region.Goals.{After-attract}
 use Rattle.parity.proofs.workspace.Workspace.+solve_region.Given.{Over}

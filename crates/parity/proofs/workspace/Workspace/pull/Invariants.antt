@@ -1,4 +1,4 @@
-use Rattle.std.proofs.Common.{◌≡◌, ℕ, ◌<◌, ◌≤◌, get_or}
+use Rattle.std.proofs.Common.{◌≡◌, ℕ, ◌<◌, ◌≤◌}
 use Rattle.parity.specs.Workspaces.{board_of, sheet_of}
 use Rattle.parity.proofs.workspace.Workspace.pull.Given as goal
 
