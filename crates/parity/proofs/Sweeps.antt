@@ -67,15 +67,12 @@ drawing_none b i m a =
       sorts = λ p h. inl (record { tag = refl; winner = refl; move = refl });
     }
 
--- one position after another, and one chase after another
+-- a position that joins, or does not, leaves the set drawn
 pub tried_chased : (b : Board) (i m : ℕ) (a z : Sheet) (p : ℕ) (grew : Bool) → Tried b.game i m a z p grew → Chased b i m a z
 tried_chased b i m a z p true t =
     let u = t.joins refl in
     record { draws = λ first d. drawing_more b i m first a z p u.1 u.0 u.2 u.3 d }
 tried_chased b i m a z p false t = record { draws = λ first d. subst (Drawing b i m first) (sym (t.stays refl).0) d }
-
-pub chased_then : (b : Board) (i m : ℕ) (a y z : Sheet) → Chased b i m a y → Chased b i m y z → Chased b i m a z
-chased_then b i m a y z v w = record { draws = λ first d. w.draws first (v.draws first d) }
 
 -- a sweep in which nothing joined leaves nothing to draw in
 pub drawn_end : (b : Board) (i m : ℕ) (first a z : Sheet) (down grew : Bool) → Chased b i m first a → Swept b i m a z down b.size grew → grew ≡ false → Drawn b i m first z
