@@ -68,4 +68,4 @@ returns-clause-solved g t c =
     let r = g.met.G.ParityGame.ranged c.args.self.now.game.now in
     let e = c.rounds.invariant.same.board in
     step_last (board_of c.args.self.now) r c.args.colours c.args.bound c.if-colours-eq0.false _ c.requires _ _ _ c.rounds.invariant.round (omega arith) (omega arith) _
-    (rw e at c.rounds-test.ensures.seeded) _ (rw (c.seed.ensures.same.board ∙ e) at c.solve_region-2.ensures.solved)
+    (rw e at c.rounds-test.ensures.seeded) (sheet_of c.solve_region-2.new.self) (rw (c.seed.ensures.same.board ∙ e) at c.solve_region-2.ensures.solved)
