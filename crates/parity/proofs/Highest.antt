@@ -1,26 +1,27 @@
 -- The least number above the colours of a region, one position after another.
 use Rattle.std.proofs.Common.{ℕ, ◌+◌, ◌<◌, ◌≤◌, ap, arith}
+use Rattle.std.proofs.lemmas.Grind.{common_steps}
+use Rattle.std.specs.Ordering.{ord_max, nat_cmp}
 use native.Mathlib.Decide.{ℕ_discrete}
 use Rattle.walks.specs.Games.{Game}
 use Rattle.parity.specs.Rounds.{Highest}
 
-module _ (g : Game) (b n : ℕ) (t : ℕ → ℕ) (c : ℕ) (h : Highest g b n t c) where
-  pub highest_same : (t n < b → g.colour n < c) → Highest g b (n + 1) t c
-  highest_same low =
-      record {
-        covers = λ p l k. elim (ℕ_discrete p n) [
-          | yes e ↦ let x = ap g.colour e in let y = ap t e in let z = low (omega arith) in omega arith
-          | no d ↦ h.covers p (omega arith) k
-        ];
-        least = λ e f. h.least e (λ p l. f p (omega arith));
-      }
+pub highest_same : (g : Game) (b n : ℕ) (t : ℕ → ℕ) (c : ℕ) → Highest g b n t c → b ≤ t n → Highest g b (n + 1) t c
+highest_same g b n t c h out =
+    record {
+      covers = λ p l k. elim (ℕ_discrete p n) [
+        | yes e ↦ absurd (let y = ap t e in omega arith)
+        | no d ↦ h.covers p (omega arith) k
+      ];
+      least = λ e f. h.least e (λ p l. f p (omega arith));
+    }
 
-  pub highest_up : t n < b → c ≤ g.colour n → Highest g b (n + 1) t (g.colour n + 1)
-  highest_up at up =
-      record {
-        covers = λ p l k. elim (ℕ_discrete p n) [
-          | yes e ↦ let x = ap g.colour e in omega arith
-          | no d ↦ let z = h.covers p (omega arith) k in omega arith
-        ];
-        least = λ e f. let z = f n (omega arith) at in omega arith;
-      }
+pub highest_more : (g : Game) (b n : ℕ) (t : ℕ → ℕ) (c : ℕ) → Highest g b n t c → t n < b → Highest g b (n + 1) t (ord_max nat_cmp c (g.colour n + 1))
+highest_more g b n t c h low =
+    record {
+      covers = λ p l k. elim (ℕ_discrete p n) [
+        | yes e ↦ (let x = ap g.colour e in grind (arith, common_steps))
+        | no d ↦ (let z = h.covers p (omega arith) k in grind (arith, common_steps))
+      ];
+      least = λ e f. (let y = h.least e (λ p l. f p (omega arith)) in let z = f n (omega arith) low in grind (arith, common_steps));
+    }

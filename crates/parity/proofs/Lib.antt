@@ -4,6 +4,7 @@ pub mod Drawings
 pub mod Highest
 pub mod Lowest
 pub mod Settling
+pub mod Seeds
 pub mod Steps
 pub mod Sweeps
 pub mod Topped

@@ -1,29 +1,20 @@
 -- From the region of all positions to the whole game.
-use Rattle.std.proofs.Common.{◌≡◌, ℕ, ◌*◌, ◌<◌, ◌≤◌, eqb, ltb, ◌⊎◌, List, get_or, None, sym, refl, ap, ◌∙◌, inl, inr, arith}
+use Rattle.std.proofs.Common.{◌≡◌, ℕ, ◌*◌, ◌<◌, ◌≤◌, eqb, ◌⊎◌, List, ◌++◌, length, get_or, None, sym, refl, ◌∙◌, inl, inr, arith}
 use native.Mathlib.Decide.{ℕ_discrete}
-use Rattle.std.proofs.lemmas.Bool.{eqb-false, le-ltb, cond-false}
-use Rattle.chart.specs.Refusals.{done}
+use Rattle.std.proofs.lemmas.Bool.{eqb-false}
+use Rattle.std.proofs.lemmas.List.{get_or_append_left}
 use Rattle.walks.proofs.Apart.{not_both}
 use Rattle.walks.proofs.Keeping.{same_sets, same_kept}
 use Rattle.parity.specs.Boards.{Board, Ranged}
 use Rattle.parity.specs.Sheets.{Sheet, sheet, Under}
 use Rattle.parity.specs.Rounds.{Highest}
-use Rattle.parity.specs.Solving.{Region, Won, Solved}
-use Rattle.parity.specs.Promise.{dead_end, fitting, judged, verdict, Settled, Sole}
+use Rattle.parity.specs.Solving.{Won, Solved}
+use Rattle.parity.specs.Promise.{dead_end, Settled, Sole}
 use Rattle.parity.proofs.Lowest.{lowest_none}
 
-module _ (b : Board) (c : ℕ) (a : Sheet) (zero : (p : ℕ) → a.tag p ≡ 0) (h : Highest b.game 1 b.size a.tag c) where
+module _ (b : Board) (c : ℕ) (a : Sheet) (zero : (p : ℕ) → p < b.size → a.tag p ≡ 0) (h : Highest b.game 1 b.size a.tag c) where
   all_in : (p : ℕ) → p < b.size → Under b.size a.tag (2 * c) p
-  all_in p lt = (lt, (let z = zero p in let k = h.covers p lt (omega arith) in omega arith))
-
-  pub whole_region : ((p : ℕ) → p < b.size → 0 < b.game.degree p) → Region b c (2 * c) a
-  whole_region moves =
-      record {
-        room = omega arith;
-        fresh = λ p lt k. zero p;
-        colours = λ p lt k. h.covers p lt (let z = zero p in omega arith);
-        total = λ p lt k. (0, moves p lt, (let z = zero (b.game.target p 0) in let y = zero p in omega arith));
-      }
+  all_in p lt = (lt, (let z = zero p lt in let k = h.covers p lt (omega arith) in omega arith))
 
   pub whole_settled : (t w s : List ℕ) → Solved b (2 * c) a (sheet t w s) → Settled b w s
   whole_settled t w s v =
@@ -34,8 +25,12 @@ module _ (b : Board) (c : ℕ) (a : Sheet) (zero : (p : ℕ) → a.tag p ≡ 0) 
             (λ p. get_or s p 0) (λ p u. u.0) all_in (λ p u. (u.0.0, u.1)) (λ p u. (all_in p u.0, u.1)) (v.keeps i le);
       }
 
+-- there are at most 256 colours
+pub few_colours : (b : Board) → Ranged b → (m : ℕ) (t : ℕ → ℕ) (c : ℕ) → Highest b.game m b.size t c → c ≤ 256
+few_colours b r m t c h = h.least 256 (λ p lt k. let x = r.colours p lt in omega arith)
+
 -- what is settled depends only on the tables' first numbers
-pub same_settled : (b : Board) (v s w t : List ℕ) → ((p : ℕ) → p < b.size → get_or w p 0 ≡ get_or v p 0) → ((p : ℕ) → p < b.size → get_or t p 0 ≡ get_or s p 0) →
+same_settled : (b : Board) (v s w t : List ℕ) → ((p : ℕ) → p < b.size → get_or w p 0 ≡ get_or v p 0) → ((p : ℕ) → p < b.size → get_or t p 0 ≡ get_or s p 0) →
     Settled b v s → Settled b w t
 same_settled b v s w t ew es k =
     record {
@@ -46,13 +41,10 @@ same_settled b v s w t ew es k =
           (λ p u. u) (λ p u. u) (λ p u. (u.0, ew p u.0 ∙ u.1)) (λ p u. (u.0, sym (ew p u.0) ∙ u.1)) (k.keeps i le));
     }
 
--- nothing stands against solving
-pub verdict_done : (b : Board) (w s k : ℕ) → None ≡ dead_end b → b.size ≤ w → b.size ≤ s → 8 * b.size ≤ k → done tt ≡ verdict b w s k
-verdict_done b w s k none hw hs hk =
-    sym (ap (λ o. judged o (fitting b.size w s k)) (sym none)
-    ∙ (cond-false (ltb w b.size) _ _ (le-ltb w b.size hw)
-    ∙ (cond-false (ltb s b.size) _ _ (le-ltb s b.size hs)
-    ∙ cond-false (ltb k (8 * b.size)) _ _ (le-ltb k (8 * b.size) hk))))
+-- in tables of just the size, and in longer ones that begin with them
+pub settled_longer : (b : Board) (w s x y : List ℕ) → length w ≡ b.size → length s ≡ b.size → Settled b w s → Settled b (w ++ x) (s ++ y)
+settled_longer b w s x y lw ls =
+    same_settled b w s (w ++ x) (s ++ y) (λ p lt. get_or_append_left w x 0 p (omega arith)) (λ p lt. get_or_append_left s y 0 p (omega arith))
 
 -- where no position lacks a move, each has one
 pub has_move : (b : Board) → None ≡ dead_end b → (p : ℕ) → p < b.size → 0 < b.game.degree p

@@ -1,5 +1,6 @@
 -- A sweep, one position after another.
-use Rattle.std.proofs.Common.{◌≡◌, ℕ, ◌+◌, ◌<◌, Bool, true, false, sym, refl, ◌∙◌, subst, inl, arith}
+use Rattle.std.proofs.Common.{◌≡◌, ℕ, ◌+◌, ◌<◌, Bool, true, false, ◌||◌, sym, refl, ◌∙◌, subst, inl, arith}
+use Rattle.std.proofs.Math.Bool.{or-true, or-false}
 use native.Mathlib.Decide.{ℕ_discrete}
 use Rattle.parity.specs.Boards.{Board}
 use Rattle.parity.specs.Sheets.{Sheet}
@@ -11,12 +12,12 @@ turned_back : (down : Bool) (n p j : ℕ) → p < n → turned down n p ≡ j �
 turned_back true n p j h e = omega arith
 turned_back false n p j h e = e
 
-pub turned_low : (down : Bool) (n p : ℕ) → p < n → turned down n p < n
+turned_low : (down : Bool) (n p : ℕ) → p < n → turned down n p < n
 turned_low true n p h = omega arith
 turned_low false n p h = h
 
 module _ (b : Board) (i m : ℕ) (a z y : Sheet) (down : Bool) (p j : ℕ) (at : p ≡ turned down b.size j) (lt : p < b.size) (grew : Bool) (w : Swept b i m a z down j grew) where
-  pub swept_joins : (grown : Bool) → grown ≡ true → Tried b.game i m z y p true → Swept b i m a y down (j + 1) grown
+  swept_joins : (grown : Bool) → grown ≡ true → Tried b.game i m z y p true → Swept b i m a y down (j + 1) grown
   swept_joins grown e t =
       let u = t.joins refl in
       let less : outside m y.tag b.size < outside m z.tag b.size = outside_lt m z.tag y.tag b.size p
@@ -26,10 +27,10 @@ module _ (b : Board) (i m : ℕ) (a z y : Sheet) (down : Bool) (p j : ℕ) (at :
         draws = λ first d. drawing_more b i m first z y p u.1 u.0 u.2 u.3 (w.draws first d);
         most = (let o = w.most in omega arith);
         less = λ _. (let o = w.most in omega arith);
-        shut = λ f. absurd (let no : ◌≡◌ {A = ℕ} 0 1 = cc in omega arith);
+        shut = λ f. cc;
       }
 
-  pub swept_passes : (grown : Bool) → grown ≡ grew → Tried b.game i m z y p false → Swept b i m a y down (j + 1) grown
+  swept_passes : (grown : Bool) → grown ≡ grew → Tried b.game i m z y p false → Swept b i m a y down (j + 1) grown
   swept_passes grown e t =
       let u = t.stays refl in
       subst (λ s. Swept b i m a s down (j + 1) grown) (sym u.0) (subst (λ g. Swept b i m a z down (j + 1) g) (sym e)
@@ -45,16 +46,19 @@ module _ (b : Board) (i m : ℕ) (a z y : Sheet) (down : Bool) (p j : ℕ) (at :
         ];
       }))
 
-pub swept_start : (b : Board) (i m : ℕ) (a : Sheet) (down : Bool) → Swept b i m a a down 0 false
-swept_start b i m a down =
-    record {
-      draws = λ first d. d;
-      most = omega arith;
-      less = λ e. absurd (let no : ◌≡◌ {A = ℕ} 0 1 = cc in omega arith);
-      shut = λ e q l h. absurd (omega arith);
-    }
+-- whether the position of the place j joins or not
+pub swept_next : (b : Board) (i m : ℕ) (a z y : Sheet) (down : Bool) (p j : ℕ) (grew joins : Bool) → Swept b i m a z down j grew → Tried b.game i m z y p joins →
+    p ≡ turned down b.size j → j < b.size → Swept b i m a y down (j + 1) (grew || joins)
+swept_next b i m a z y down p j grew joins w t at low = by_case joins t
+  where
+    lt : p < b.size
+    lt = subst (λ x. x < b.size) (sym at) (turned_low down b.size j low)
 
-pub drawing_none : (b : Board) (i m : ℕ) (a : Sheet) → Drawing b i m a a
+    by_case : (joins : Bool) → Tried b.game i m z y p joins → Swept b i m a y down (j + 1) (grew || joins)
+    by_case true t = swept_joins b i m a z y down p j at lt grew w (grew || true) (or-true grew) t
+    by_case false t = swept_passes b i m a z y down p j at lt grew w (grew || false) (or-false grew) t
+
+drawing_none : (b : Board) (i m : ℕ) (a : Sheet) → Drawing b i m a a
 drawing_none b i m a =
     record {
       rank = λ p. 0;
@@ -63,20 +67,17 @@ drawing_none b i m a =
       sorts = λ p h. inl (record { tag = refl; winner = refl; move = refl });
     }
 
--- one position after another, and one chase after another
+-- a position that joins, or does not, leaves the set drawn
 pub tried_chased : (b : Board) (i m : ℕ) (a z : Sheet) (p : ℕ) (grew : Bool) → Tried b.game i m a z p grew → Chased b i m a z
 tried_chased b i m a z p true t =
     let u = t.joins refl in
     record { draws = λ first d. drawing_more b i m first a z p u.1 u.0 u.2 u.3 d }
 tried_chased b i m a z p false t = record { draws = λ first d. subst (Drawing b i m first) (sym (t.stays refl).0) d }
 
-pub chased_then : (b : Board) (i m : ℕ) (a y z : Sheet) → Chased b i m a y → Chased b i m y z → Chased b i m a z
-chased_then b i m a y z v w = record { draws = λ first d. w.draws first (v.draws first d) }
-
 -- a sweep in which nothing joined leaves nothing to draw in
-pub drawn_end : (b : Board) (i m : ℕ) (first a z : Sheet) (down : Bool) → Drawing b i m first a → Swept b i m a z down b.size false → Drawn b i m first z
-drawn_end b i m first a z down d w =
+pub drawn_end : (b : Board) (i m : ℕ) (first a z : Sheet) (down grew : Bool) → Chased b i m first a → Swept b i m a z down b.size grew → grew ≡ false → Drawn b i m first z
+drawn_end b i m first a z down grew d w none =
     record {
-      drawing = w.draws first d;
-      shut = λ p l h. w.shut refl p l (turned_low down b.size p l) h;
+      drawing = w.draws first (d.draws first (drawing_none b i m first));
+      shut = λ p l h. w.shut none p l (turned_low down b.size p l) h;
     }

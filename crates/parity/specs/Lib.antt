@@ -7,3 +7,4 @@ pub mod Rounds
 pub mod Sheets
 pub mod Solving
 pub mod Tables
+pub mod Workspaces

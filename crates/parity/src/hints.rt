@@ -1,24 +1,22 @@
-use super::ParityGame;
+ghost use Rattle.std.specs.Prelude.{◌*◌, ◌≤◌, length};
 
-/// What stands at a place of the table, and 0 past its end.
-fn at(table: &[u32], place: usize) -> u32 {
-    if place < table.len() { table[place] } else { 0 }
-}
+use super::ParityGame;
+use super::rows::number_at;
 
 /// Writes into the table, unless the place lies past its end.
 fn put(table: &mut [u32], place: usize, value: u32) {
-    if place < table.len() {
-        table[place] = value;
+    if let Some(slot) = table.get_mut(place) {
+        *slot = value;
     }
 }
 
 /// Counts the moves that end at each position.
 fn count<G: ParityGame>(game: &G, heads: &mut [u32]) {
-    for position in 0..heads.len() {
+    for position in 0..game.size() {
         for number in 0..game.degree(position) {
-            let end = game.target(position, number);
-            let moves = at(heads, end);
-            put(heads, end, moves.wrapping_add(1));
+            if let Some(moves) = heads.get_mut(game.target(position, number)) {
+                *moves = moves.wrapping_add(1);
+            }
         }
     }
 }
@@ -26,75 +24,84 @@ fn count<G: ParityGame>(game: &G, heads: &mut [u32]) {
 /// From how many moves end at each position to where its list begins.
 fn begin(heads: &mut [u32]) {
     let mut sum = 0u32;
-    for position in 0..heads.len() {
-        let moves = at(heads, position);
-        put(heads, position, sum);
+    for head in heads.iter_mut() {
+        let moves = *head;
+        *head = sum;
         sum = sum.wrapping_add(moves);
     }
 }
 
 /// Writes each position into the lists of those that its moves end at.
 fn fill<G: ParityGame>(game: &G, heads: &mut [u32], sources: &mut [u32]) {
-    for position in 0..heads.len() {
+    for position in 0..game.size() {
         for number in 0..game.degree(position) {
-            let end = game.target(position, number);
-            let place = at(heads, end);
-            put(sources, place as usize, (position % 65536) as u32);
-            put(heads, end, place.wrapping_add(1));
+            if let Some(head) = heads.get_mut(game.target(position, number)) {
+                put(sources, *head as usize, position as u32);
+                *head = head.wrapping_add(1);
+            }
         }
     }
 }
 
-/// Notes, for each position, from where moves lead to it: the list of a position ends at its head,
-/// and begins at the head before. The lists only hint at where to look; what does not fit is left
-/// out, and nothing that is promised rests on them.
-pub fn note<G: ParityGame>(game: &G, heads: &mut [u32], sources: &mut [u32]) {
-    for position in 0..heads.len() {
-        put(heads, position, 0);
-    }
-    count(game, heads);
-    begin(heads);
-    fill(game, heads, sources);
+/// Where to look first for what a set draws in: for each position those from where moves lead to
+/// it, and a queue of positions to look at. It only hints; what does not fit is left out, and
+/// nothing that is promised rests on it.
+#[derive(Drop)]
+pub struct Trail<'a> {
+    heads: &'a [u32],
+    sources: &'a [u32],
+    queue: &'a mut [u32],
+    end: usize,
 }
 
-/// The lists that `note` has written.
-#[derive(Clone, Copy)]
-pub struct Hints<'a> {
-    pub heads: &'a [u32],
-    pub sources: &'a [u32],
-}
-
-impl<'a> Hints<'a> {
-    /// Where the list of the position begins.
-    pub fn start(&self, position: usize) -> usize {
-        if position == 0 {
-            0
-        } else {
-            at(self.heads, position - 1) as usize
+impl<'a> Trail<'a> {
+    /// Notes the moves of the game, in memory of two numbers for each position and one for each
+    /// move. The list of a position ends at its head, and begins at the head before.
+    pub fn new<G: ParityGame>(game: &G, memory: &'a mut [u32]) -> Self
+        requires { 2 * (G.ParityGame.board game.now).size ≤ length memory.old }
+    {
+        let size = game.size();
+        let (queue, rest) = memory.split_at_mut(size);
+        let (heads, sources) = rest.split_at_mut(size);
+        heads.fill(0);
+        count(game, heads);
+        begin(heads);
+        fill(game, heads, sources);
+        Trail {
+            heads,
+            sources,
+            queue,
+            end: 0,
         }
     }
 
-    /// Where the list of the position ends.
-    pub fn end(&self, position: usize) -> usize {
-        at(self.heads, position) as usize
+    /// The positions from where moves lead to the position.
+    pub fn sources(&self, position: usize) -> &'a [u32] {
+        let start = match position {
+            0 => 0,
+            _ => number_at(self.heads, position - 1),
+        };
+        let end = number_at(self.heads, position);
+        self.sources
+            .get(start as usize..end as usize)
+            .unwrap_or(&[])
     }
 
-    /// From where the move at a place of the lists leads.
-    pub fn source(&self, place: usize) -> usize {
-        at(self.sources, place) as usize
+    /// Empties the queue.
+    pub fn clear(&mut self) {
+        self.end = 0;
     }
-}
 
-/// The position at a place of the queue.
-pub fn queued(queue: &[u32], place: usize) -> usize {
-    at(queue, place) as usize
-}
-
-/// Appends a position to the queue, if it has room, and says where the queue ends now.
-pub fn append(queue: &mut [u32], end: usize, position: usize) -> usize {
-    if end >= queue.len() {
-        return end;
+    /// Appends a position to the queue, if there is room.
+    pub fn push(&mut self, position: u32) {
+        if let Some(place) = self.queue.get_mut(self.end) {
+            *place = position;
+            self.end += 1;
+        }
     }
-    put(queue, end, (position % 65536) as u32);
-    end + 1
+
+    /// The position at a place of the queue, if the queue reaches so far.
+    pub fn queued(&self, place: usize) -> Option<u32> {
+        self.queue.get(..self.end)?.get(place).copied()
+    }
 }

@@ -1,7 +1,10 @@
 #![tactic(auto)]
 
 ghost use Rattle.std.specs.Prelude.{◌≡◌};
+ghost use Rattle.chart.specs.Players.{numbered};
 ghost use Rattle.parity.specs.Boards.{Board, Ranged};
+
+use chart::Player;
 
 mod attractor;
 mod hints;
@@ -9,6 +12,7 @@ mod recursion;
 mod round;
 pub mod rows;
 pub mod solver;
+mod workspace;
 
 /// A finite parity game. The highest colour that comes again and again decides a play: even is good
 /// for player 0, odd for player 1. Every question is answered, in constant time; an answer past the
@@ -16,15 +20,13 @@ pub mod solver;
 pub trait ParityGame {
     ghost board: { Self → Board };
 
-    ghost ranged: { (c : Self) → Ranged (board c) };
-
     /// The number of positions.
     fn size(&self) -> usize
         ensures { result ≡ (board self.now).size };
 
-    /// Who moves at the position: 0 or 1.
-    fn owner(&self, position: usize) -> u8
-        ensures { result ≡ (board self.now).game.owner position };
+    /// Who moves at the position.
+    fn owner(&self, position: usize) -> Player
+        ensures { numbered result ≡ (board self.now).game.owner position };
 
     fn colour(&self, position: usize) -> u8
         ensures { result ≡ (board self.now).game.colour position };
@@ -36,4 +38,6 @@ pub trait ParityGame {
     /// Where the move of a number ends.
     fn target(&self, position: usize, number: usize) -> usize
         ensures { result ≡ (board self.now).game.target position number };
+
+    ghost ranged: { (c : Self) → Ranged (board c) };
 }

@@ -1,49 +1,60 @@
-ghost use Rattle.std.specs.Prelude.{◌≡◌};
-ghost use Rattle.parity.specs.Sheets.{sheet, Sized};
-ghost use Rattle.parity.specs.Solving.{Region, Solved};
+ghost use Rattle.std.specs.Prelude.{◌≡◌, ◌%◌};
+ghost use Rattle.chart.specs.Players.{numbered};
 
 use super::ParityGame;
-use super::attractor::attract;
-use super::hints::Hints;
-use super::round::{give, highest, seed};
+use super::attractor::Attractor;
+use super::hints::Trail;
+use super::workspace::Workspace;
+use chart::Player;
 
-/// Solves the region of the tags below the bound, whose colours are below the number of colours.
-///
-/// The player of the highest colour draws in what it can, and what is left is solved by itself.
-/// What the other player wins there, and what it draws in from there, is its for good; so it goes
-/// on with the rest until the other wins nothing more.
-pub fn solve_region<G: ParityGame>(
-    game: &G,
-    colours: u32,
-    bound: u32,
-    hints: &Hints<'_>,
-    queue: &mut [u32],
-    tags: &mut [u32],
-    winners: &mut [u32],
-    moves: &mut [u32],
-)
-    requires sized { Sized (G.ParityGame.board game.now).size tags.old winners.old moves.old }
-    requires region { Region (G.ParityGame.board game.now) colours bound (sheet tags.old winners.old moves.old) }
-    ensures { Solved (G.ParityGame.board game.now) bound
-        (sheet tags.old winners.old moves.old)
-        (sheet tags.new winners.new moves.new) }
+/// The player for whom a colour is good that comes again and again.
+fn favoured(colour: u32) -> Player
+    ensures { numbered result ≡ colour % 2 }
 {
-    if colours == 0 {
-        return;
+    if colour % 2 == 0 {
+        Player::Controller
+    } else {
+        Player::Harbour
     }
-    let top = colours - 1;
-    let player = (top % 2) as u8;
-    let other = 1 - player;
-    let mark = bound - 2;
-    'rounds: while seed(game, top, player, mark, tags, winners, moves) {
-        attract(game, player, mark, hints, queue, tags, winners, moves);
-        let below = highest(game, mark, tags);
-        solve_region(game, below, mark, hints, queue, tags, winners, moves);
-        if !give(other, mark, tags, winners) {
+}
+
+impl<'a, G: ParityGame> Workspace<'a, G> {
+    ghost use Rattle.parity.specs.Solving.{Region, Solved};
+    ghost use Rattle.parity.specs.Workspaces.{board_of, sheet_of, Same};
+
+    /// Solves the region of the tags below the bound, whose colours are below the number of
+    /// colours.
+    ///
+    /// The player of the highest colour draws in what it can, and what is left is solved by itself.
+    /// What the other player wins there, and what it draws in from there, is its for good; so it
+    /// goes on with the rest until the other wins nothing more.
+    pub fn solve_region(&mut self, colours: u32, bound: u32, trail: &mut Trail<'_>)
+        requires { Region (board_of self.old) colours bound (sheet_of self.old) }
+        ensures same { Same self.old self.new }
+        ensures solved { Solved (board_of self.old) bound (sheet_of self.old) (sheet_of self.new) }
+    {
+        if colours == 0 {
             return;
         }
-        attract(game, other, mark + 1, hints, queue, tags, winners, moves);
+        let top = colours - 1;
+        let player = favoured(top);
+        let other = player.opponent();
+        let mark = bound - 2;
+        let ours = Attractor { player, mark };
+        let theirs = Attractor {
+            player: other,
+            mark: mark + 1,
+        };
+        'rounds: while self.seed(top, ours) {
+            self.attract(ours, trail);
+            let below = self.highest(mark);
+            self.solve_region(below, mark, trail);
+            if !self.give(other, mark) {
+                return;
+            }
+            self.attract(theirs, trail);
+        }
+        let below = self.highest(mark + 1);
+        self.solve_region(below, mark + 1, trail);
     }
-    let below = highest(game, mark + 1, tags);
-    solve_region(game, below, mark + 1, hints, queue, tags, winners, moves);
 }

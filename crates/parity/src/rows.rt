@@ -3,6 +3,7 @@ ghost use Rattle.parity.specs.Tables.{tabled};
 ghost use Rattle.parity.specs.ClipsRanged.{clip_ranged};
 
 use super::ParityGame;
+use chart::Player;
 
 /// The most positions that plain tables can hold.
 const LIMIT: usize = 65536;
@@ -18,17 +19,10 @@ pub struct Rows<'a> {
 }
 
 /// What stands at a place of the table, and 0 past its end.
-fn byte_at(table: &[u8], place: usize) -> u8
+pub(crate) fn number_at(table: &[u32], place: usize) -> u32
     ensures { result ≡ slice_index table.now place }
 {
-    if place < table.len() { table[place] } else { 0 }
-}
-
-/// The same of a table of larger numbers.
-fn number_at(table: &[u32], place: usize) -> u32
-    ensures { result ≡ slice_index table.now place }
-{
-    if place < table.len() { table[place] } else { 0 }
+    table.get(place).copied().unwrap_or(0)
 }
 
 impl<'a> ParityGame for Rows<'a> {
@@ -37,33 +31,26 @@ impl<'a> ParityGame for Rows<'a> {
     ghost ranged = { λ t. clip_ranged _ };
 
     fn size(&self) -> usize {
-        let size = self.owners.len();
-        if size < LIMIT { size } else { LIMIT }
+        self.owners.len().min(LIMIT)
     }
 
-    fn owner(&self, position: usize) -> u8 {
-        if byte_at(self.owners, position) > 0 {
-            1
-        } else {
-            0
+    fn owner(&self, position: usize) -> Player {
+        match self.owners.get(position) {
+            None | Some(0) => Player::Controller,
+            Some(_) => Player::Harbour,
         }
     }
 
     fn colour(&self, position: usize) -> u8 {
-        byte_at(self.colours, position)
+        self.colours.get(position).copied().unwrap_or(0)
     }
 
     fn degree(&self, position: usize) -> usize {
-        if position >= self.starts.len() {
+        let Some(start) = self.starts.get(position) else {
             return 0;
-        }
-        let start = self.starts[position];
+        };
         let end = number_at(self.starts, position + 1);
-        if start < end {
-            (end - start) as usize
-        } else {
-            0
-        }
+        end.saturating_sub(*start) as usize
     }
 
     fn target(&self, position: usize, number: usize) -> usize {

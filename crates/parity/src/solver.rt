@@ -3,9 +3,8 @@ ghost use Rattle.chart.specs.Refusals.{outcome};
 ghost use Rattle.parity.specs.Promise.{dead_end, verdict, Settled, Sole};
 
 use super::ParityGame;
-use super::hints::{Hints, note};
-use super::recursion::solve_region;
-use super::round::highest;
+use super::hints::Trail;
+use super::workspace::Workspace;
 use chart::refusal::Refusal;
 
 /// The working memory that a game needs, in numbers for each position.
@@ -23,17 +22,25 @@ fn dead_end<G: ParityGame>(game: &G) -> Option<usize>
     None
 }
 
-/// Sets every number of the table to 0.
-fn clear(tags: &mut [u32])
-    ensures { (p : ℕ) → slice_index tags.new p ≡ 0 }
-{
-    for tag in tags.iter_mut() {
-        *tag = 0;
+impl<'a, G: ParityGame> Workspace<'a, G> {
+    ghost use Rattle.std.specs.Prelude.{ℕ, ◌<◌};
+    ghost use Rattle.parity.specs.Promise.{Settled};
+    ghost use Rattle.parity.specs.Workspaces.{board_of, Same};
+
+    /// Solves a game in which every position has a move, whatever the tables hold.
+    #[tactic(auto, using(crate::proofs::Settling::few_colours))]
+    fn solve_all(&mut self, trail: &mut Trail<'_>)
+        requires { (p : ℕ) → p < (board_of self.old).size → 0 < (board_of self.old).game.degree p }
+        ensures same { Same self.old self.new }
+        ensures settled { Settled (board_of self.old) self.new.winners.now self.new.moves.now }
+    {
+        self.tags.fill(0);
+        let colours = self.highest(1);
+        self.solve_region(colours, 2 * colours, trail);
     }
 }
 
-/// Solves a game in which every position has a move, in tables of just its size and memory of eight
-/// times that.
+/// The same in tables of just its size, with memory of eight times that.
 fn settle<G: ParityGame>(game: &G, winners: &mut [u32], moves: &mut [u32], memory: &mut [u32])
     requires winners_len { length winners.old ≡ (G.ParityGame.board game.now).size }
     requires moves_len { length moves.old ≡ (G.ParityGame.board game.now).size }
@@ -41,24 +48,15 @@ fn settle<G: ParityGame>(game: &G, winners: &mut [u32], moves: &mut [u32], memor
     requires no_dead_end { (p : ℕ) → p < (G.ParityGame.board game.now).size → 0 < (G.ParityGame.board game.now).game.degree p }
     ensures { Settled (G.ParityGame.board game.now) winners.new moves.new }
 {
-    let size = winners.len();
-    let (tags, rest) = memory.split_at_mut(size);
-    let (queue, rest) = rest.split_at_mut(size);
-    let (heads, sources) = rest.split_at_mut(size);
-    note(game, heads, sources);
-    clear(tags);
-    let colours = highest(game, 1, tags);
-    let hints = Hints { heads, sources };
-    solve_region(
+    let (tags, rest) = memory.split_at_mut(winners.len());
+    let mut trail = Trail::new(game, rest);
+    let mut workspace = Workspace {
         game,
-        colours,
-        2 * colours,
-        &hints,
-        queue,
         tags,
         winners,
         moves,
-    );
+    };
+    workspace.solve_all(&mut trail);
 }
 
 /// Solves the game: writes the winner of each position, and the move that its owner is to play if
@@ -66,6 +64,7 @@ fn settle<G: ParityGame>(game: &G, winners: &mut [u32], moves: &mut [u32], memor
 /// would do. Refuses a game in which a
 /// position has no move, tables with less than one number for each position, and memory with less
 /// than eight; a refused call changes neither table, and nothing is written past the positions.
+#[tactic(auto, using(crate::proofs::Settling::has_move, crate::proofs::Settling::settled_longer))]
 pub fn solve<G: ParityGame>(
     game: &G,
     winners: &mut [u32],
@@ -88,10 +87,7 @@ pub fn solve<G: ParityGame>(
         return Err(Refusal::DeadEnd(position));
     }
     let size = game.size();
-    if winners.len() < size {
-        return Err(Refusal::ShortTable);
-    }
-    if moves.len() < size {
+    if winners.len() < size || moves.len() < size {
         return Err(Refusal::ShortTable);
     }
     if memory.len() < MEMORY * size {

@@ -1,8 +1,0 @@
-use Rattle.parity.specs.Sheets.{sheet}
-use Rattle.parity.specs.Attractors.{Chased}
-use Rattle.parity.proofs.attractor.chase.Given as goal
-
-abbrev pub invariant-loop-place : goal.invariant-loop-place
-invariant-loop-place g l =
-    Chased (g.G.ParityGame.board l.game) l.player l.mark (sheet l.initial.tags l.initial.winners l.initial.moves)
-    (sheet l.tags l.winners l.moves)
