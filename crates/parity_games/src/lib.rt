@@ -45,20 +45,11 @@ pub fn rest(number: u64, by: u64) -> u64
     ensures below { 0 < by → result < by }
     ensures rest { 0 < by → result ≡ number % by }
 {
-    if by == 0 { 0 } else { number % by }
+    number.checked_rem(by).unwrap_or(0)
 }
 
 /// Writes into a table, unless the place lies past its end.
-pub fn put(table: &mut [u32], place: usize, value: u32)
-    ensures { table.new ≡ set table.old place value }
-{
-    if place < table.len() {
-        table[place] = value;
-    }
-}
-
-/// The same of a table of bytes.
-pub fn put_byte(table: &mut [u8], place: usize, value: u8)
+pub fn put<T: Copy>(table: &mut [T], place: usize, value: T)
     ensures { table.new ≡ set table.old place value }
 {
     if place < table.len() {
@@ -79,23 +70,17 @@ pub struct Plan {
     pub shuffled: bool,
 }
 
-/// Along steps, the colour that the position has by its share of the way.
-fn rise(size: u64, position: u64) -> u64 {
-    if size == 0 {
-        0
-    } else {
-        position.wrapping_mul(COLOURS) / size % COLOURS
-    }
+/// In a nest, how many positions each chain has: two for each of its steps.
+fn chain_length(size: u64) -> u64 {
+    2 * (size / 20)
 }
 
 /// In a nest, the colour of the chain that the position is on, and 0 past the last chain.
 fn chain_colour(size: u64, position: u64) -> u8 {
-    let double = 2 * (size / 20);
-    if double == 0 {
-        return 0;
+    match position.checked_div(chain_length(size)) {
+        Some(level) if level < 10 => (level + 1) as u8,
+        _ => 0,
     }
-    let level = position / double;
-    if level < 10 { (level + 1) as u8 } else { 0 }
 }
 
 impl Plan {
@@ -207,8 +192,8 @@ impl Plan {
     ) {
         for position in 0..self.size {
             let label = self.label(position);
-            put_byte(owners, label, self.owner(position));
-            put_byte(colours, label, self.colour(position));
+            put(owners, label, self.owner(position));
+            put(colours, label, self.colour(position));
             for number in 0..4 {
                 let end = self.label(rest(self.end(position, number), self.size));
                 let place = label.wrapping_mul(MOVES).wrapping_add(number as usize);
