@@ -1,6 +1,8 @@
 #![tactic(auto)]
 
-ghost use Rattle.std.specs.Prelude.{◌%◌, ◌<◌, ◌≤◌, ◌≡◌, set};
+ghost use Rattle.std.specs.Prelude.{◌%◌, ◌*◌, ◌+◌, ◌<◌, ◌≤◌, ◌≡◌, ◌↔◌, IfSome, IsFalse, IsSome, replicate, set, take};
+
+use parity::rows::Rows;
 
 /// The moves of each position of a generated game. Some may end at the same position.
 pub const MOVES: usize = 4;
@@ -25,6 +27,17 @@ pub enum Family {
     /// Chains of each colour over chains of the lower ones, so that each step calls for them all.
     Nest,
 }
+
+/// The families that have a game of any size and of any number of colours: all but the nests.
+pub const FAMILIES: [Family; 7] = [
+    Family::Lanes,
+    Family::Chain,
+    Family::Ladder,
+    Family::Steps,
+    Family::Random,
+    Family::Way,
+    Family::Tolls,
+];
 
 /// A number mixed from three others.
 pub fn mixed(seed: u64, first: u64, second: u64) -> u64 {
@@ -57,6 +70,68 @@ pub fn put<T: Copy>(table: &mut [T], place: usize, value: T)
     }
 }
 
+/// The most positions that a board has room for.
+pub const MOST: usize = 4096;
+
+/// Memory for the tables of any game of at most 4,096 positions.
+pub struct Board {
+    pub owners: [u8; MOST],
+    pub colours: [u8; MOST],
+    pub starts: [u32; MOST + 1],
+    pub targets: [u32; MOVES * MOST],
+}
+
+impl Default for Board {
+    ghost is_default = { λ b. (b.owners ≡ replicate 4096 0) × (b.colours ≡ replicate 4096 0)
+        × (b.starts ≡ replicate 4097 0) × (b.targets ≡ replicate 16384 0) };
+
+    fn default() -> Board {
+        Board {
+            owners: [0; MOST],
+            colours: [0; MOST],
+            starts: [0; MOST + 1],
+            targets: [0; MOVES * MOST],
+        }
+    }
+}
+
+impl Board {
+    /// The tables of a game of the size, unless it has more positions than the board.
+    pub fn tables(&mut self, size: u64) -> Option<Tables<'_>>
+        ensures room { IsSome result ↔ (size ≤ 4096) }
+        ensures owners { IfSome result (λ t. t.owners.now ≡ take size self.old.owners) }
+        ensures colours { IfSome result (λ t. t.colours.now ≡ take size self.old.colours) }
+        ensures starts { IfSome result (λ t. t.starts.now ≡ take (size + 1) self.old.starts) }
+        ensures targets { IfSome result (λ t. t.targets.now ≡ take (4 * size) self.old.targets) }
+    {
+        let size = size as usize;
+        if size > MOST {
+            return None;
+        }
+        let Board {
+            owners,
+            colours,
+            starts,
+            targets,
+        } = self;
+        Some(Tables {
+            owners: &mut owners[..size],
+            colours: &mut colours[..size],
+            starts: &mut starts[..=size],
+            targets: &mut targets[..MOVES * size],
+        })
+    }
+}
+
+/// The tables of a game, lent to be laid: a number for each position in the first two, one more
+/// among the starts, and four for each among the targets.
+pub struct Tables<'a> {
+    pub owners: &'a mut [u8],
+    pub colours: &'a mut [u8],
+    pub starts: &'a mut [u32],
+    pub targets: &'a mut [u32],
+}
+
 /// The colours of a generated game are below this number.
 pub const COLOURS: u64 = 11;
 
@@ -84,6 +159,23 @@ fn chain_colour(size: u64, position: u64) -> u8 {
 }
 
 impl Plan {
+    /// A game of all colours with its positions in order; its seed is 1.
+    pub fn new(family: Family, size: u64) -> Plan
+        ensures family { result.family ≡ family }
+        ensures size { result.size ≡ size }
+        ensures colours { result.colours ≡ 11 }
+        ensures seed { result.seed ≡ 1 }
+        ensures shuffled { IsFalse result.shuffled }
+    {
+        Plan {
+            family,
+            size,
+            colours: COLOURS as u8,
+            seed: 1,
+            shuffled: false,
+        }
+    }
+
     /// Who moves at the position.
     fn owner(&self, position: u64) -> u8 {
         match self.family {
@@ -124,12 +216,7 @@ impl Plan {
                 position / 2 % 9
             },
             Family::Nest => {
-                let colour = u64::from(chain_colour(self.size, position));
-                if position % 2 == 0 || colour == 0 {
-                    colour
-                } else {
-                    colour - 1
-                }
+                u64::from(chain_colour(self.size, position)).saturating_sub(position % 2)
             }
         }
     }
@@ -159,7 +246,7 @@ impl Plan {
             },
             Family::Steps => match number {
                 0 => ahead,
-                1 => if position == 0 { 0 } else { position - 1 },
+                1 => position.saturating_sub(1),
                 2 => position / 2,
                 _ => position.wrapping_add(7),
             },
@@ -181,29 +268,34 @@ impl Plan {
         rest(number, self.size) as usize
     }
 
-    /// Writes the game into tables: a number for each position in the first three, one more among
-    /// the starts, and four for each among the targets.
-    pub fn lay(
-        &self,
-        owners: &mut [u8],
-        colours: &mut [u8],
-        starts: &mut [u32],
-        targets: &mut [u32],
-    ) {
+    /// Lays the game into the tables, and lends them as a game that can be solved.
+    pub fn lay<'a>(&self, tables: Tables<'a>) -> Rows<'a> {
+        let Tables {
+            owners,
+            colours,
+            starts,
+            targets,
+        } = tables;
         for position in 0..self.size {
             let label = self.label(position);
             put(owners, label, self.owner(position));
             put(colours, label, self.colour(position));
-            for number in 0..4 {
-                let end = self.label(rest(self.end(position, number), self.size));
-                let place = label.wrapping_mul(MOVES).wrapping_add(number as usize);
+            for number in 0..MOVES {
+                let end = self.label(rest(self.end(position, number as u64), self.size));
+                let place = label.wrapping_mul(MOVES).wrapping_add(number);
                 put(targets, place, (end % 65536) as u32);
             }
         }
-        let mut start = 0u32;
-        for place in 0..starts.len() {
-            put(starts, place, start);
-            start = start.wrapping_add(4);
+        let mut next = 0u32;
+        for start in starts.iter_mut() {
+            *start = next;
+            next = next.wrapping_add(MOVES as u32);
+        }
+        Rows {
+            owners,
+            colours,
+            starts,
+            targets,
         }
     }
 }
@@ -239,18 +331,18 @@ fn toll(position: u64, number: u64) -> u64 {
 /// before it. An odd one leads to itself, to the even one beside it, or to the last step of the
 /// next chain, so that the chains below are won anew each time that a chain above is.
 fn nested(size: u64, position: u64, number: u64) -> u64 {
-    let double = 2 * (size / 20);
+    let length = chain_length(size);
     let colour = chain_colour(size, position);
-    if double == 0 || colour == 0 {
+    if length == 0 || colour == 0 {
         return position;
     }
     if position % 2 == 1 && number > 1 && colour < 10 {
         return u64::from(colour)
-            .wrapping_mul(double)
-            .wrapping_add(double)
+            .wrapping_mul(length)
+            .wrapping_add(length)
             .wrapping_sub(2);
     }
-    if position % double < 2 || (position % 2 == 1 && number == 0) {
+    if position % length < 2 || (position % 2 == 1 && number == 0) {
         return position;
     }
     position - 1
