@@ -74,6 +74,7 @@ pub fn put<T: Copy>(table: &mut [T], place: usize, value: T)
 pub const MOST: usize = 4096;
 
 /// Memory for the tables of any game of at most 4,096 positions.
+#[derive(Drop)]
 pub struct Board {
     pub owners: [u8; MOST],
     pub colours: [u8; MOST],
@@ -125,6 +126,7 @@ impl Board {
 
 /// The tables of a game, lent to be laid: a number for each position in the first two, one more
 /// among the starts, and four for each among the targets.
+#[derive(Drop)]
 pub struct Tables<'a> {
     pub owners: &'a mut [u8],
     pub colours: &'a mut [u8],
