@@ -1,6 +1,8 @@
 #![tactic(auto)]
 
-ghost use Rattle.std.specs.Prelude.{◌%◌, ◌<◌, ◌≤◌, ◌≡◌, set};
+ghost use Rattle.std.specs.Prelude.{◌%◌, ◌*◌, ◌+◌, ◌<◌, ◌≤◌, ◌≡◌, ◌↔◌, IfSome, IsFalse, IsSome, set, take};
+
+use parity::rows::Rows;
 
 /// The moves of each position of a generated game. Some may end at the same position.
 pub const MOVES: usize = 4;
@@ -26,6 +28,17 @@ pub enum Family {
     Nest,
 }
 
+/// The families that have a game of any size and of any number of colours: all but the nests.
+pub const FAMILIES: [Family; 7] = [
+    Family::Lanes,
+    Family::Chain,
+    Family::Ladder,
+    Family::Steps,
+    Family::Random,
+    Family::Way,
+    Family::Tolls,
+];
+
 /// A number mixed from three others.
 pub fn mixed(seed: u64, first: u64, second: u64) -> u64 {
     let mut x = seed
@@ -45,11 +58,11 @@ pub fn rest(number: u64, by: u64) -> u64
     ensures below { 0 < by → result < by }
     ensures rest { 0 < by → result ≡ number % by }
 {
-    if by == 0 { 0 } else { number % by }
+    number.checked_rem(by).unwrap_or(0)
 }
 
 /// Writes into a table, unless the place lies past its end.
-pub fn put(table: &mut [u32], place: usize, value: u32)
+pub fn put<T: Copy>(table: &mut [T], place: usize, value: T)
     ensures { table.new ≡ set table.old place value }
 {
     if place < table.len() {
@@ -57,13 +70,59 @@ pub fn put(table: &mut [u32], place: usize, value: u32)
     }
 }
 
-/// The same of a table of bytes.
-pub fn put_byte(table: &mut [u8], place: usize, value: u8)
-    ensures { table.new ≡ set table.old place value }
-{
-    if place < table.len() {
-        table[place] = value;
+/// The most positions that there is room for.
+pub const MOST: usize = 4096;
+
+/// Room for the tables of any game of at most 4,096 positions.
+#[derive(Drop)]
+pub struct Room {
+    pub owners: [u8; MOST],
+    pub colours: [u8; MOST],
+    pub starts: [u32; MOST + 1],
+    pub targets: [u32; MOVES * MOST],
+}
+
+impl Room {
+    /// Room in which nothing is laid.
+    pub const EMPTY: Room = Room {
+        owners: [0; MOST],
+        colours: [0; MOST],
+        starts: [0; MOST + 1],
+        targets: [0; MOVES * MOST],
+    };
+
+    /// The tables of a game of the size, unless it has more positions than there is room for.
+    pub fn tables(&mut self, size: u64) -> Option<Tables<'_>>
+        ensures room { IsSome result ↔ (size ≤ 4096) }
+        ensures owners { IfSome result (λ t. t.owners.now ≡ take size self.old.owners) }
+        ensures colours { IfSome result (λ t. t.colours.now ≡ take size self.old.colours) }
+        ensures starts { IfSome result (λ t. t.starts.now ≡ take (size + 1) self.old.starts) }
+        ensures targets { IfSome result (λ t. t.targets.now ≡ take (4 * size) self.old.targets) }
+    {
+        let size = size as usize;
+        let Room {
+            owners,
+            colours,
+            starts,
+            targets,
+        } = self;
+        Some(Tables {
+            owners: owners.get_mut(..size)?,
+            colours: colours.get_mut(..size)?,
+            starts: starts.get_mut(..=size)?,
+            targets: targets.get_mut(..MOVES * size)?,
+        })
     }
+}
+
+/// The tables of a game, lent to be laid: a number for each position in the first two, one more
+/// among the starts, and four for each among the targets.
+#[derive(Drop)]
+pub struct Tables<'a> {
+    pub owners: &'a mut [u8],
+    pub colours: &'a mut [u8],
+    pub starts: &'a mut [u32],
+    pub targets: &'a mut [u32],
 }
 
 /// The colours of a generated game are below this number.
@@ -79,26 +138,37 @@ pub struct Plan {
     pub shuffled: bool,
 }
 
-/// Along steps, the colour that the position has by its share of the way.
-fn rise(size: u64, position: u64) -> u64 {
-    if size == 0 {
-        0
-    } else {
-        position.wrapping_mul(COLOURS) / size % COLOURS
-    }
+/// In a nest, how many positions each chain has: two for each of its steps.
+fn chain_length(size: u64) -> u64 {
+    2 * (size / 20)
 }
 
 /// In a nest, the colour of the chain that the position is on, and 0 past the last chain.
 fn chain_colour(size: u64, position: u64) -> u8 {
-    let double = 2 * (size / 20);
-    if double == 0 {
-        return 0;
+    match position.checked_div(chain_length(size)) {
+        Some(level) if level < 10 => (level + 1) as u8,
+        _ => 0,
     }
-    let level = position / double;
-    if level < 10 { (level + 1) as u8 } else { 0 }
 }
 
 impl Plan {
+    /// A game of all colours with its positions in order; its seed is 1.
+    pub fn new(family: Family, size: u64) -> Plan
+        ensures family { result.family ≡ family }
+        ensures size { result.size ≡ size }
+        ensures colours { result.colours ≡ 11 }
+        ensures seed { result.seed ≡ 1 }
+        ensures shuffled { IsFalse result.shuffled }
+    {
+        Plan {
+            family,
+            size,
+            colours: COLOURS as u8,
+            seed: 1,
+            shuffled: false,
+        }
+    }
+
     /// Who moves at the position.
     fn owner(&self, position: u64) -> u8 {
         match self.family {
@@ -139,12 +209,7 @@ impl Plan {
                 position / 2 % 9
             },
             Family::Nest => {
-                let colour = u64::from(chain_colour(self.size, position));
-                if position % 2 == 0 || colour == 0 {
-                    colour
-                } else {
-                    colour - 1
-                }
+                u64::from(chain_colour(self.size, position)).saturating_sub(position % 2)
             }
         }
     }
@@ -174,7 +239,7 @@ impl Plan {
             },
             Family::Steps => match number {
                 0 => ahead,
-                1 => if position == 0 { 0 } else { position - 1 },
+                1 => position.saturating_sub(1),
                 2 => position / 2,
                 _ => position.wrapping_add(7),
             },
@@ -196,29 +261,34 @@ impl Plan {
         rest(number, self.size) as usize
     }
 
-    /// Writes the game into tables: a number for each position in the first three, one more among
-    /// the starts, and four for each among the targets.
-    pub fn lay(
-        &self,
-        owners: &mut [u8],
-        colours: &mut [u8],
-        starts: &mut [u32],
-        targets: &mut [u32],
-    ) {
+    /// Lays the game into the tables, and lends them as a game that can be solved.
+    pub fn lay<'a>(&self, tables: Tables<'a>) -> Rows<'a> {
+        let Tables {
+            owners,
+            colours,
+            starts,
+            targets,
+        } = tables;
         for position in 0..self.size {
             let label = self.label(position);
-            put_byte(owners, label, self.owner(position));
-            put_byte(colours, label, self.colour(position));
-            for number in 0..4 {
-                let end = self.label(rest(self.end(position, number), self.size));
-                let place = label.wrapping_mul(MOVES).wrapping_add(number as usize);
+            put(owners, label, self.owner(position));
+            put(colours, label, self.colour(position));
+            for number in 0..MOVES {
+                let end = self.label(rest(self.end(position, number as u64), self.size));
+                let place = label.wrapping_mul(MOVES).wrapping_add(number);
                 put(targets, place, (end % 65536) as u32);
             }
         }
-        let mut start = 0u32;
-        for place in 0..starts.len() {
-            put(starts, place, start);
-            start = start.wrapping_add(4);
+        let mut next = 0u32;
+        for start in starts.iter_mut() {
+            *start = next;
+            next = next.wrapping_add(MOVES as u32);
+        }
+        Rows {
+            owners,
+            colours,
+            starts,
+            targets,
         }
     }
 }
@@ -254,18 +324,18 @@ fn toll(position: u64, number: u64) -> u64 {
 /// before it. An odd one leads to itself, to the even one beside it, or to the last step of the
 /// next chain, so that the chains below are won anew each time that a chain above is.
 fn nested(size: u64, position: u64, number: u64) -> u64 {
-    let double = 2 * (size / 20);
+    let length = chain_length(size);
     let colour = chain_colour(size, position);
-    if double == 0 || colour == 0 {
+    if length == 0 || colour == 0 {
         return position;
     }
     if position % 2 == 1 && number > 1 && colour < 10 {
         return u64::from(colour)
-            .wrapping_mul(double)
-            .wrapping_add(double)
+            .wrapping_mul(length)
+            .wrapping_add(length)
             .wrapping_sub(2);
     }
-    if position % double < 2 || (position % 2 == 1 && number == 0) {
+    if position % length < 2 || (position % 2 == 1 && number == 0) {
         return position;
     }
     position - 1

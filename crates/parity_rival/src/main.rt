@@ -1,88 +1,59 @@
 #![tactic(auto)]
 
 use contest::{THREES, family_agrees, three_agrees};
-use parity_games::{Family, Plan};
+use parity_games::{FAMILIES, Family, Plan};
 use std::io;
 
 mod contest;
 mod fixpoint;
 mod judge;
 
-const FAMILIES: [Family; 7] = [
-    Family::Lanes,
-    Family::Chain,
-    Family::Ladder,
-    Family::Steps,
-    Family::Random,
-    Family::Way,
-    Family::Tolls,
-];
+/// The steps that the rival is given, enough for it to come to an end.
+const STEPS: Option<usize> = Some(1_000_000);
 
 /// How many of the games of three positions agree.
-fn threes() -> u32 {
-    let mut agreed = 0u32;
-    for code in 0..THREES {
-        if three_agrees(code) {
-            agreed = agreed.saturating_add(1);
-        }
-    }
-    agreed
+fn threes() -> usize {
+    (0..THREES).filter(|code| three_agrees(*code)).count()
+}
+
+/// How many games agree of those that the plan gives for each number below the bound.
+fn agreeing<F: Fn(u64) -> Plan>(numbers: u64, steps: Option<usize>, plan: F) -> usize
+    requires { F.IsAlwaysCallable plan }
+{
+    (0..numbers)
+        .filter(|number| family_agrees(&plan(*number), steps))
+        .count()
 }
 
 /// How many random games of a few positions and the number of colours agree, one for each seed.
-fn few(size: u64, colours: u8, seeds: u64) -> u32 {
-    let mut agreed = 0u32;
-    for seed in 0..seeds {
-        let plan = Plan {
-            family: Family::Random,
-            size,
-            colours,
-            seed,
-            shuffled: false,
-        };
-        if family_agrees(&plan, 1_000_000) {
-            agreed = agreed.saturating_add(1);
-        }
-    }
-    agreed
+fn few(size: u64, colours: u8, seeds: u64) -> usize {
+    let plan = |seed: u64| Plan {
+        colours,
+        seed,
+        ..Plan::new(Family::Random, size)
+    };
+    agreeing(seeds, STEPS, plan)
 }
 
-/// How many games of all families agree, plain and shuffled.
-fn families(size: u64, colours: u8, seeds: u64, steps: usize) -> u32 {
-    let mut agreed = 0u32;
-    for family in FAMILIES {
-        for seed in 0..seeds {
-            let plan = Plan {
-                family,
-                size,
+/// How many games of all families agree, plain and shuffled, one for each seed.
+fn families(size: u64, colours: u8, seeds: u64, steps: Option<usize>) -> usize {
+    FAMILIES
+        .into_iter()
+        .map(|family| {
+            let plan = |seed: u64| Plan {
                 colours,
                 seed,
                 shuffled: seed % 2 == 1,
+                ..Plan::new(family, size)
             };
-            if family_agrees(&plan, steps) {
-                agreed = agreed.saturating_add(1);
-            }
-        }
-    }
-    agreed
+            agreeing(seeds, steps, plan)
+        })
+        .fold(0, usize::saturating_add)
 }
 
 /// How many nests agree, of lengths up to the size.
-fn nests(size: u64) -> u32 {
-    let mut agreed = 0u32;
-    for length in 0..size {
-        let plan = Plan {
-            family: Family::Nest,
-            size: length,
-            colours: 11,
-            seed: 0,
-            shuffled: false,
-        };
-        if family_agrees(&plan, 1_000_000) {
-            agreed = agreed.saturating_add(1);
-        }
-    }
-    agreed
+fn nests(size: u64) -> usize {
+    agreeing(size, STEPS, |length| Plan::new(Family::Nest, length))
 }
 
 fn main(rt: HostRuntime) -> io::Result<()> {
@@ -92,13 +63,13 @@ fn main(rt: HostRuntime) -> io::Result<()> {
     let six = few(6, 6, 20_000);
     let eight = few(8, 8, 20_000);
     println!(rt; "4, 6 and 8 positions, 20000 each: {four}, {six} and {eight} agree")?;
-    let small = families(16, 11, 200, 1_000_000);
-    let some = families(64, 11, 50, 1_000_000);
+    let small = families(16, 11, 200, STEPS);
+    let some = families(64, 11, 50, STEPS);
     println!(rt; "7 families of 16 and 64 positions, 200 and 50 each: {small} and {some} agree")?;
     let nested = nests(64);
     println!(rt; "nests of 0 to 63 positions: {nested} agree")?;
-    let many = families(512, 4, 4, 1_000_000);
+    let many = families(512, 4, 4, STEPS);
     println!(rt; "7 families of 512 positions and 4 colours, 4 each: {many} agree")?;
-    let large = families(4096, 11, 2, 0);
+    let large = families(4096, 11, 2, None);
     println!(rt; "7 families of 4096 positions, 2 each: both players keep their halves in {large}")
 }
