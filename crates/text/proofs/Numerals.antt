@@ -118,10 +118,32 @@ digit_low [] i a h = absurd (omega arith)
 digit_low (d ∷ ds) zero a h = leb-true 48 d (and_parts (leb 48 d) (leb d 57) (and_parts (is_ascii_digit d) (all_ascii_digits ds) a).0).0
 digit_low (d ∷ ds) (suc i) a h = digit_low ds i (and_parts (is_ascii_digit d) (all_ascii_digits ds) a).1 (omega arith)
 
--- a number whose run of digits ends at `end`
-pub numbered_to : (bytes : List ℕ) (end value : ℕ) → end ≡ prefix_len is_ascii_digit bytes → ¬ (end ≡ 0) → end ≤ 5 → (1 < end → get_or bytes 0 0 ≡ 48 → ⊥) →
-    value ≡ value_of 0 (take (end - 0) bytes) → Numbered bytes value (take (length bytes - end) (drop end bytes))
-numbered_to bytes end value is some few lead v =
-    let here : Numbered bytes (value_of 0 (take end bytes)) (drop end bytes) = rw is (numbered bytes (omega arith) (omega arith) (λ h. lead (omega arith))) in
-    let all : end - 0 ≡ end = omega arith in
-    rw (v, all, take_rest bytes end) here
+-- the run of digits at the front of some bytes, and what stands behind it
+pub record Runs (bytes run rest : List ℕ) : Type 0 where
+  pub front : run ≡ take (prefix_len is_ascii_digit bytes) bytes
+  pub back : rest ≡ drop (prefix_len is_ascii_digit bytes) bytes
+  pub long : length run ≡ prefix_len is_ascii_digit bytes
+
+pub runs : (bytes run rest : List ℕ) (k : ℕ) → k ≡ prefix_len is_ascii_digit bytes → run ≡ take k bytes → rest ≡ drop k bytes → length run ≡ k → Runs bytes run rest
+runs bytes run rest k is front back long = record { front = rw (sym is) front; back = rw (sym is) back; long = omega arith }
+
+module _ (bytes run rest : List ℕ) (r : Runs bytes run rest) where
+  first_same : 0 < length run → get_or run 0 0 ≡ get_or bytes 0 0
+  first_same some = ap (λ t. get_or t 0 0) r.front ∙ get_or-take (prefix_len is_ascii_digit bytes) bytes 0 0 (omega (arith, r.long))
+
+  pub run_digits : all_ascii_digits run ≡ true
+  run_digits = ap all_ascii_digits r.front ∙ digits_lead bytes
+
+  -- where a number stands, the run is its digits
+  pub run_some_of : (n : ℕ) (other : List ℕ) → Numbered bytes n other → 0 < length run
+  run_some_of n other here = omega (arith, r.long, run_some bytes n other here)
+
+  pub run_short_of : (n : ℕ) (other : List ℕ) → Numbered bytes n other → length run ≤ 5
+  run_short_of n other here = omega (arith, r.long, run_short bytes n other here)
+
+  pub run_plain_of : (n : ℕ) (other : List ℕ) → Numbered bytes n other → 1 < length run → get_or run 0 0 ≡ 48 → ⊥
+  run_plain_of n other here h e = no_leading_zero bytes n other here (omega (arith, r.long)) (sym (first_same (omega arith)) ∙ e)
+
+  pub run_numbered : 0 < length run → length run ≤ 5 → (1 < length run → get_or run 0 0 ≡ 48 → ⊥) → Numbered bytes (value_of 0 run) rest
+  run_numbered some few plain =
+      rw (r.front, r.back) (numbered bytes (omega (arith, r.long)) (omega (arith, r.long)) (λ h e. plain (omega (arith, r.long)) (first_same some ∙ e)))

@@ -1,11 +1,11 @@
 -- Reading a string of bytes ends in one way only.
-use Rattle.std.proofs.Common.{◌≡◌, ℕ, zero, suc, ◌+◌, List, Some, codes, sym, refl, ap, ◌∙◌, ap₂, arith}
+use Rattle.std.proofs.Common.{◌≡◌, ℕ, zero, suc, ◌+◌, cond, List, length, get_or, Some, nat_eq, sym, refl, ap, ◌∙◌, ap₂, arith}
 use Rattle.chart.specs.Arena.{Arena}
 use Rattle.chart.specs.Refusals.{Outcome, refused}
 use Rattle.text.specs.Lines.{Line, vertices, vertex, moves, move}
 use Rattle.text.specs.Tokens.{Lined}
 use Rattle.text.specs.Reading.{Due, count_due, vertex_due, move_due, next, Finished, Begins, drawn_by, Reads, whole, wrong, declined, onward}
-use Rattle.text.proofs.Fields.{one_count, one_vertex, one_move, lined_vertices, lined_moves}
+use Rattle.text.proofs.Fields.{word_of, numbers_of, one_spelling, lined_spells}
 use Rattle.text.proofs.Steps.{none_some, some_same, done_same, done_refused}
 
 -- nothing begins where all is read
@@ -56,26 +56,41 @@ kind_due (move_due (suc k) low) (moves n) then e = absurd (none_some e)
 kind_due (move_due (suc k) low) (move f t c) then e = refl
 
 -- a line of a kind that begins the bytes is the only one
-same_line : (bytes : List ℕ) (line other : Line) (rest remains : List ℕ) → kind line ≡ kind other → Lined bytes line rest → Lined bytes other remains → (line ≡ other) × (rest ≡ remains)
+same_word : (line other : Line) → kind line ≡ kind other → (word_of line ≡ word_of other) × (length (numbers_of line) ≡ length (numbers_of other))
 unfolding kind
-same_line bytes (vertices n) (vertices m) rest remains e a b = let p = one_count (codes "vertices=") bytes n m rest remains (lined_vertices bytes n rest a) (lined_vertices bytes m remains b) in (ap vertices p.0, p.1)
-same_line bytes (vertices n) (vertex o c) rest remains e a b = absurd (omega arith)
-same_line bytes (vertices n) (moves m) rest remains e a b = absurd (omega arith)
-same_line bytes (vertices n) (move f t c) rest remains e a b = absurd (omega arith)
-same_line bytes (vertex o c) (vertices n) rest remains e a b = absurd (omega arith)
-same_line bytes (vertex o c) (vertex p d) rest remains e a b = let s = one_vertex bytes o c p d rest remains a b in (ap₂ vertex s.0 s.1, s.2)
-same_line bytes (vertex o c) (moves n) rest remains e a b = absurd (omega arith)
-same_line bytes (vertex o c) (move f t d) rest remains e a b = absurd (omega arith)
-same_line bytes (moves n) (vertices m) rest remains e a b = absurd (omega arith)
-same_line bytes (moves n) (vertex o c) rest remains e a b = absurd (omega arith)
-same_line bytes (moves n) (moves m) rest remains e a b = let p = one_count (codes "moves=") bytes n m rest remains (lined_moves bytes n rest a) (lined_moves bytes m remains b) in (ap moves p.0, p.1)
-same_line bytes (moves n) (move f t c) rest remains e a b = absurd (omega arith)
-same_line bytes (move f t c) (vertices n) rest remains e a b = absurd (omega arith)
-same_line bytes (move f t c) (vertex o d) rest remains e a b = absurd (omega arith)
-same_line bytes (move f t c) (moves n) rest remains e a b = absurd (omega arith)
-same_line bytes (move f t c) (move g u d) rest remains e a b =
-    let s = one_move bytes f t c g u d rest remains a b in
-    (ap (λ x. move x t c) s.0 ∙ ap₂ (λ x y. move g x y) s.1 s.2, s.3)
+same_word (vertices n) (vertices m) e = (refl, refl)
+same_word (vertices n) (vertex o c) e = absurd (omega arith)
+same_word (vertices n) (moves m) e = absurd (omega arith)
+same_word (vertices n) (move f t c) e = absurd (omega arith)
+same_word (vertex o c) (vertices n) e = absurd (omega arith)
+same_word (vertex o c) (vertex p d) e = (refl, refl)
+same_word (vertex o c) (moves n) e = absurd (omega arith)
+same_word (vertex o c) (move f t d) e = absurd (omega arith)
+same_word (moves n) (vertices m) e = absurd (omega arith)
+same_word (moves n) (vertex o c) e = absurd (omega arith)
+same_word (moves n) (moves m) e = (refl, refl)
+same_word (moves n) (move f t c) e = absurd (omega arith)
+same_word (move f t c) (vertices n) e = absurd (omega arith)
+same_word (move f t c) (vertex o d) e = absurd (omega arith)
+same_word (move f t c) (moves n) e = absurd (omega arith)
+same_word (move f t c) (move g u d) e = (refl, refl)
+
+-- the line of a kind with some numbers
+line_of : ℕ → List ℕ → Line
+line_of k ns = cond (nat_eq k 0) (vertices (get_or ns 0 0)) (cond (nat_eq k 1) (vertex (get_or ns 0 0) (get_or ns 1 0)) (cond (nat_eq k 2) (moves (get_or ns 0 0)) (move (get_or ns 0 0) (get_or ns 1 0) (get_or ns 2 0))))
+
+of_its_numbers : (line : Line) → line_of (kind line) (numbers_of line) ≡ line
+unfolding kind line_of
+of_its_numbers (vertices n) = refl
+of_its_numbers (vertex o c) = refl
+of_its_numbers (moves n) = refl
+of_its_numbers (move f t c) = refl
+
+same_line : (bytes : List ℕ) (line other : Line) (rest remains : List ℕ) → kind line ≡ kind other → Lined bytes line rest → Lined bytes other remains → (line ≡ other) × (rest ≡ remains)
+same_line bytes line other rest remains e a b =
+    let w = same_word line other e in
+    let p = one_spelling (word_of line) bytes (numbers_of line) (numbers_of other) rest remains w.1 (lined_spells bytes line rest a) (rw w.0 (lined_spells bytes other remains b)) in
+    (sym (of_its_numbers line) ∙ ap₂ line_of e p.0 ∙ of_its_numbers other, p.1)
 
 one_line : (due : Due) (bytes : List ℕ) (line other : Line) (rest remains : List ℕ) (then now : Due) → Begins due bytes line rest then → Begins due bytes other remains now → (line ≡ other) × (rest ≡ remains) × (then ≡ now)
 one_line due bytes line other rest remains then now a b =

@@ -13,10 +13,9 @@ use Rattle.drawn.specs.Meaning.{sheet}
 use Rattle.drawn.specs.Readings.{sheet_ranged, size_is, count_is}
 use Rattle.drawn.proofs.Outcomes.{place_done, join_done}
 use Rattle.text.specs.Lines.{vertices, vertex, moves, move, spelt}
-use Rattle.text.specs.Tokens.{Counted, Lined}
+use Rattle.text.specs.Tokens.{Lined}
 use Rattle.text.specs.Reading.{Reads, count_due, vertex_due, move_due}
 use Rattle.text.specs.Writing.{vertex_line, move_line, move_lines, text_of}
-use Rattle.text.proofs.Fields.{vertices_fields, moves_fields}
 use Rattle.text.proofs.Steps.{next_count, next_vertex, next_moves, next_move, all_read}
 use Rattle.text.proofs.Putting.{joined_append, text_parts}
 
@@ -127,8 +126,8 @@ read_back d =
     let nil : last ++ [] ≡ last = append-nil last in
     let end_of_moves : Reads end (arena (map bare vs)) (move_due (move_count vs) 0) (2 + length vs + 1) last =
     rw (sym nil) (join_all end [] vs 0 (2 + length vs + 1) (length vs) [] (omega arith) (omega (arith, d.room)) (omega arith) ok (omega (arith, d.few)) (λ bound. all_read end a (2 + length vs + 1 + move_count vs) [] bound refl refl)) in
-    let moves_counted : Counted (codes "moves=") third (move_count vs) last = record { small = omega (arith, d.few); is = moves_fields (move_count vs) last } in
-    let vertices_counted : Counted (codes "vertices=") (spelt (vertices (size a)) ++ second) (size a) second = record { small = omega (arith, d.room); is = vertices_fields (size a) second } in
+    let moves_counted : Lined third (moves (move_count vs)) last = record { short = omega (arith, d.few); is = refl } in
+    let vertices_counted : Lined (spelt (vertices (size a)) ++ second) (vertices (size a)) second = record { short = omega (arith, d.room); is = refl } in
     rw (sym (text_parts a))
     (next_count end blank 1 (spelt (vertices (size a)) ++ second) (size a) second vertices_counted
     (place_all end [] vs 2 (size a) third (omega (arith, d.room)) ok
