@@ -1,21 +1,25 @@
--- The turns of a loop that looks for the lowest element that passes a test.
-use Rattle.std.proofs.Common.{◌≡◌, ℕ, ◌+◌, ◌≤◌, Bool, true, false, cond, List, length, drop, Some, None, sym, ap, ◌∙◌, add-one}
+-- The lowest vertex without a move, from what is known of each vertex.
+use Rattle.std.proofs.Common.{◌≡◌, ℕ, zero, suc, ◌+◌, ◌<◌, List, [], ◌∷◌, length, Some, None, refl, ap, ◌∙◌, arith, eq-eqb, ne_eqb}
 use Rattle.std.specs.List.{slice_get}
-use Rattle.std.proofs.lemmas.List.{drop_all}
-use Rattle.chart.specs.DeadEnds.{lowest_from}
-use Rattle.chart.proofs.Lists.{drop_nth}
+use Rattle.std.specs.Option.{option_map}
+use Rattle.chart.specs.Arena.{Vertex}
+use Rattle.chart.specs.DeadEnds.{lowest_from, is_dead_end}
 
-module _ {A : Type 0} (test : A → Bool) (xs : List A) (k : ℕ) where
-  at_place : (x : A) → slice_get xs k ≡ Some x → lowest_from test k (drop k xs) ≡ cond (test x) (Some k) (lowest_from test (k + 1) (drop (k + 1) xs))
-  at_place x e =
-      ap (lowest_from test k) (drop_nth xs k x e)
-      ∙ ap (λ n. cond (test x) (Some k) (lowest_from test n (drop (k + 1) xs))) (sym (add-one k))
+-- the vertex of a number is there, and no move leaves it
+abbrev pub Ends : List Vertex → ℕ → Type 0
+Ends vs v = option_map (λ x. length x.moves) (slice_get vs v) ≡ Some 0
 
-  pub lowest_here : (x : A) → slice_get xs k ≡ Some x → test x ≡ true → lowest_from test k (drop k xs) ≡ Some k
-  lowest_here x e t = at_place x e ∙ ap (λ b. cond b (Some k) (lowest_from test (k + 1) (drop (k + 1) xs))) t
+pub lowest_at : (k : ℕ) (vs : List Vertex) (i : ℕ) → Ends vs i → ((j : ℕ) → j < i → Ends vs j → ⊥) → lowest_from is_dead_end k vs ≡ Some (i + k)
+lowest_at k [] i e before = cc
+lowest_at k (v ∷ vs) zero e before =
+    let none : length v.moves ≡ 0 = cc in
+    rw (eq-eqb (length v.moves) 0 none) (ap Some (omega arith))
+lowest_at k (v ∷ vs) (suc i) e before =
+    rw (ne_eqb (length v.moves) 0 (λ n. before 0 (omega arith) (ap Some n)))
+    (lowest_at (suc k) vs i e (λ j h. before (suc j) (omega arith)) ∙ ap Some (omega arith))
 
-  pub lowest_later : (x : A) → slice_get xs k ≡ Some x → test x ≡ false → lowest_from test k (drop k xs) ≡ lowest_from test (k + 1) (drop (k + 1) xs)
-  lowest_later x e t = at_place x e ∙ ap (λ b. cond b (Some k) (lowest_from test (k + 1) (drop (k + 1) xs))) t
-
-  pub lowest_none : length xs ≤ k → lowest_from test k (drop k xs) ≡ None
-  lowest_none h = ap (lowest_from test k) (drop_all k xs h)
+pub lowest_nowhere : (k : ℕ) (vs : List Vertex) → ((j : ℕ) → j < length vs → Ends vs j → ⊥) → lowest_from is_dead_end k vs ≡ None
+lowest_nowhere k [] before = refl
+lowest_nowhere k (v ∷ vs) before =
+    rw (ne_eqb (length v.moves) 0 (λ n. before 0 (omega arith) (ap Some n)))
+    (lowest_nowhere (suc k) vs (λ j h. before (suc j) (omega arith)))

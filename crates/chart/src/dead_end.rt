@@ -8,10 +8,7 @@ pub fn lowest_dead_end<C: Chart>(chart: &C) -> Option<usize>
     ensures { result ≡ lowest_dead_end (C.Chart.meaning chart.now) }
 {
     for vertex in 0..chart.size() {
-        let Some(degree) = chart.degree(vertex) else {
-            return None;
-        };
-        if degree == 0 {
+        if chart.degree(vertex) == Some(0) {
             return Some(vertex);
         }
     }

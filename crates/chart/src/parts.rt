@@ -1,6 +1,8 @@
-ghost use Rattle.std.specs.Prelude.{◌≡◌, if◌then◌else◌, Some, None, nat_le};
-ghost use Rattle.std.specs.Option.{option_map};
+ghost use Rattle.std.specs.Prelude.{◌≡◌, ◌<◌, ◌-◌, MatchResult};
 ghost use Rattle.chart.specs.Players.{numbered};
+ghost use Rattle.chart.specs.declared.refusal.Refusal.TheVariants.{UnknownOwner};
+
+use super::refusal::Refusal;
 
 /// Who decides at a vertex: the crew's controller, player 0, or the harbour, player 1.
 #[derive(Clone, Copy, PartialEq, Eq, Debug)]
@@ -10,23 +12,38 @@ pub enum Player {
 }
 
 impl Player {
-    /// The player of a number, if there is one.
-    pub fn from_number(number: u32) -> Option<Player>
-        ensures { option_map numbered result ≡ (if nat_le number 1 then Some number else None) }
-    {
-        if number == 0 {
-            Some(Player::Controller)
-        } else if number == 1 {
-            Some(Player::Harbour)
-        } else {
-            None
-        }
-    }
-
-    pub fn number(self) -> u8
-        ensures { result ≡ numbered self }
+    /// Who plays against this one.
+    pub fn opponent(self) -> Player
+        ensures { numbered result ≡ 1 - numbered self }
     {
         match self {
+            Player::Controller => Player::Harbour,
+            Player::Harbour => Player::Controller,
+        }
+    }
+}
+
+/// The player of a number; there is none above 1.
+impl TryFrom<u32> for Player {
+    type Error = Refusal;
+
+    ghost try_from_gives = { λ n r. MatchResult r (λ p. numbered p ≡ n) (λ e. (1 < n) × (e ≡ UnknownOwner)) };
+
+    fn try_from(number: u32) -> Result<Player, Refusal> {
+        match number {
+            0 => Ok(Player::Controller),
+            1 => Ok(Player::Harbour),
+            _ => Err(Refusal::UnknownOwner),
+        }
+    }
+}
+
+/// The number by which texts and rules speak of the player.
+impl From<Player> for u32 {
+    ghost from_gives = { λ p n. n ≡ numbered p };
+
+    fn from(player: Player) -> u32 {
+        match player {
             Player::Controller => 0,
             Player::Harbour => 1,
         }

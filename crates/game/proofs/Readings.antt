@@ -1,29 +1,19 @@
 -- The tables of an arena beside its rows, and the ranges that they keep.
-use Rattle.std.proofs.Common.{◌≡◌, ℕ, zero, suc, ◌<◌, ◌≤◌, List, [], ◌∷◌, length, get_or, Some, sym, ap, ◌∙◌, subst, arith}
+use Rattle.std.proofs.Common.{◌≡◌, ℕ, suc, ◌<◌, ◌≤◌, length, get_or, Some, sym, ap, ◌∙◌, subst, arith}
 use native.Mathlib.Decide.{dec_le}
 use lib.ListN.{get_or-eq_default}
 use Rattle.std.specs.List.{slice_get}
 use Rattle.std.proofs.ByRecursion.{All-get_or}
-use Rattle.std.proofs.lemmas.Option.{slice_get-get_or}
+use Rattle.std.proofs.lemmas.Option.{slice_get-get_or, get_or_from_slice_get}
 use Rattle.chart.specs.Arena.{Arena, Vertex, size, vertex_at, Ranged, RangedVertex, RangedMove}
 use Rattle.chart.specs.declared.parts.Move.{Move}
 use Rattle.game.specs.Reading.{no_move, no_vertex, row, owner_of, colour_of, degree_of, target_of, cost_of}
-
-pub get_or_nth : {A : Type 0} (xs : List A) (i : ℕ) (x d : A) → slice_get xs i ≡ Some x → get_or xs i d ≡ x
-get_or_nth [] i x d e = absurd (let z : ◌≡◌ {A = ℕ} 0 1 = cc in omega arith)
-get_or_nth (y ∷ xs) zero x d e = cc
-get_or_nth (y ∷ xs) (suc i) x d e = get_or_nth xs i x d e
-
-pub nth_low : {A : Type 0} (xs : List A) (i : ℕ) (x : A) → slice_get xs i ≡ Some x → i < length xs
-nth_low [] i x e = absurd (let z : ◌≡◌ {A = ℕ} 0 1 = cc in omega arith)
-nth_low (y ∷ xs) zero x e = omega arith
-nth_low (y ∷ xs) (suc i) x e = let h = nth_low xs i x e in omega arith
 
 module _ (a : Arena) (v : ℕ) where
   -- a vertex that is there
   module _ (x : Vertex) (e : vertex_at a v ≡ Some x) where
     pub row_is : row a v ≡ x
-    row_is = get_or_nth a.vertices v x no_vertex e
+    row_is = get_or_from_slice_get a.vertices v x no_vertex e
 
     pub owner_is : owner_of a v ≡ x.owner
     unfolding owner_of
@@ -41,11 +31,11 @@ module _ (a : Arena) (v : ℕ) where
     module _ (m : ℕ) (y : Move) (f : slice_get x.moves m ≡ Some y) where
       pub target_is : target_of a v m ≡ y.target
       unfolding target_of
-      target_is = ap (λ r. (get_or r.moves m no_move).target) row_is ∙ ap (λ z. z.target) (get_or_nth x.moves m y no_move f)
+      target_is = ap (λ r. (get_or r.moves m no_move).target) row_is ∙ ap (λ z. z.target) (get_or_from_slice_get x.moves m y no_move f)
 
       pub cost_is : cost_of a v m ≡ y.cost
       unfolding cost_of
-      cost_is = ap (λ r. (get_or r.moves m no_move).cost) row_is ∙ ap (λ z. z.cost) (get_or_nth x.moves m y no_move f)
+      cost_is = ap (λ r. (get_or r.moves m no_move).cost) row_is ∙ ap (λ z. z.cost) (get_or_from_slice_get x.moves m y no_move f)
 
   pub row_past : size a ≤ v → row a v ≡ no_vertex
   row_past h = get_or-eq_default a.vertices no_vertex h

@@ -3,13 +3,13 @@ use Rattle.std.proofs.Common.{◌≡◌, ℕ, ◌<◌, ◌≤◌, List, length, 
 use native.Mathlib.Decide.{dec_le}
 use Rattle.std.specs.Option.{option_map}
 use Rattle.std.specs.List.{slice_get}
-use Rattle.std.proofs.lemmas.Option.{slice_get-get_or}
+use Rattle.std.proofs.lemmas.Option.{slice_get-get_or, slice_get_within}
 use Rattle.chart.specs.Arena.{Arena, Vertex, vertex_at, move_at, and_then}
 use Rattle.chart.specs.declared.parts.Move.{Move}
 use Rattle.chart.specs.declared.parts.Player.{Player}
 use Rattle.chart.specs.Players.{numbered}
 use Rattle.game.specs.Reading.{no_move, no_vertex, row, owner_of, colour_of, degree_of, target_of, cost_of}
-use Rattle.game.proofs.Readings.{nth_low, row_is, row_past, degree_is, target_is, cost_is}
+use Rattle.game.proofs.Readings.{row_is, row_past, degree_is, target_is, cost_is}
 
 nth_none : {A : Type 0} (xs : List A) (i : ℕ) (d : A) → slice_get xs i ≡ None → length xs ≤ i
 nth_none xs i d e = elim (dec_le (length xs) i) [
@@ -60,7 +60,7 @@ module _ (a : Arena) (v m : ℕ) where
   present : (y : Move) (o : Option Vertex) → vertex_at a v ≡ o → Some y ≡ and_then o (λ x. slice_get x.moves m) → Moves y
   present y None e h = absurd (let z : ◌≡◌ {A = ℕ} 0 1 = cc in omega arith)
   present y (Some x) e h = record {
-    there = (let k = degree_is a v x e in let l = nth_low x.moves m y (sym h) in omega arith);
+    there = (let k = degree_is a v x e in let l = slice_get_within x.moves m y (sym h) in omega arith);
     target = sym (target_is a v x e m y (sym h));
     cost = sym (cost_is a v x e m y (sym h));
   }

@@ -67,7 +67,7 @@ module _ (a : Arena) where
       record { front = m ∷ r.front; back = r.back; is = ap (λ z. m ∷ z) r.is; long = ap suc r.long; there = r.there; on = r.on }
 
   both : (x y : Bool) → (not x && y) ≡ true → (x ≡ false) × (y ≡ true)
-  both true y e = absurd (let z : ◌≡◌ {A = ℕ} 0 1 = cc in omega arith)
+  both true y e = cc
   both false y e = (refl, e)
 
   -- a request of the colour q

@@ -67,7 +67,7 @@ module _ (a : Arena) (s : ℕ → ℕ) (q : ℕ) where
       }
 
   fewer : (v : ℕ) (xs : List ℕ) → Sails a s v xs → unanswered a q v xs ≡ false → answers a q (reached a v xs) ≡ false → Fewer v xs
-  fewer v [] f e n = absurd (let z : ◌≡◌ {A = ℕ} 0 1 = cc in omega arith)
+  fewer v [] f e n = cc
   fewer v (m ∷ []) f e n = absurd (let z : ◌≡◌ {A = ℕ} 0 1 = (let k : (not (answers a q (target_of a v m)) && true) ≡ true = rw n in cc) in omega arith)
   fewer v (m ∷ (m' ∷ xs)) f e n = go (answers a q (target_of a v m)) refl (λ u. fewer (target_of a v m) (m' ∷ xs) f.2 u n)
     where

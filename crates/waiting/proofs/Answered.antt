@@ -4,13 +4,13 @@ use Rattle.std.proofs.Common.{sym, ap, ◌∙◌, inl, inr, arith}
 use Rattle.std.specs.Option.{option_map}
 use Rattle.std.specs.List.{slice_get}
 use Rattle.std.proofs.lemmas.List.{length-map}
-use Rattle.std.proofs.lemmas.Option.{slice_get_past}
+use Rattle.std.proofs.lemmas.Option.{slice_get_past, slice_get_within}
 use Rattle.std.proofs.lemmas.Bool.{lt-ltb, le-ltb, eq-eqb, ne_eqb, and_from, and_right, cond-true, cond-false, cases_Bool, cases_lt}
 use Rattle.chart.specs.declared.parts.Move.{Move}
 use Rattle.chart.specs.Arena.{Arena, Vertex, Ranged, size, vertex_at, move_at, and_then}
 use Rattle.game.specs.Reading.{row, owner_of, colour_of, degree_of}
 use Rattle.game.specs.Waiting.{arrive, toll, positions, place, vertex_in, level_in, stage_in, tint, lifted, paying, position, may_be_laid, waiting, first}
-use Rattle.game.proofs.Readings.{nth_low, vertex_there, owner_is, colour_is, degree_is, target_is, target_low}
+use Rattle.game.proofs.Readings.{vertex_there, owner_is, colour_is, degree_is, target_is, target_low}
 use Rattle.game.proofs.Positions.{unlaid, waiting_size, waiting_at, waiting_past, vertex_in_low, moves_on, moves_off}
 use Rattle.waiting.specs.declared.names.Position.{Position}
 use Rattle.waiting.specs.Positions.{located, first_of}
@@ -140,7 +140,7 @@ module _ (a : Arena) where
       by_vertex : (o : Option Vertex) → vertex_at a v ≡ o → Some m ≡ and_then o (λ y. slice_get y.moves i) → m.target < size a
       by_vertex None w f = absurd (let z : ◌≡◌ {A = ℕ} 0 1 = cc in omega arith)
       by_vertex (Some y) w f =
-          let low : i < degree_of a v = rw (degree_is a v y w) (nth_low y.moves i m (sym f)) in
+          let low : i < degree_of a v = rw (degree_is a v y w) (slice_get_within y.moves i m (sym f)) in
           let h = target_low a r v i low in
           let t = target_is a v y w i m (sym f) in
           omega arith
