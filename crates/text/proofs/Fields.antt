@@ -50,19 +50,16 @@ spells_others bytes end n m rest ms after d e f s =
     let p = one_field bytes end n m rest (numbers_spelt ms ++ after) d f (rw e (spells_first bytes m ms after s)) in
     (p.0, record { small = s.small.1; is = p.1 })
 
+pub drop_first : (ns : List ℕ) (i : ℕ) → i < length ns → drop i ns ≡ get_or ns i 0 ∷ drop (i + 1) ns
+drop_first ns i h = rw (add-one, drop-cons ns i 0 h)
+
 -- the same of some numbers from one place on
 pub spells_behind : (bytes : List ℕ) (end n i : ℕ) (rest ns after : List ℕ) → is_ascii_digit end ≡ false → i < length ns → end ≡ end_of (drop (i + 1) ns) → Fielded bytes end n rest →
     Spells [] bytes (drop i ns) after → Spells [] rest (drop (i + 1) ns) after
-spells_behind bytes end n i rest ns after d h e f s = (spells_others bytes end n (get_or ns i 0) rest (drop (i + 1) ns) after d e f (rw drop_first at s)).1
-  where
-    drop_first : drop i ns ≡ get_or ns i 0 ∷ drop (i + 1) ns
-    drop_first = rw (add-one, drop-cons ns i 0 h)
+spells_behind bytes end n i rest ns after d h e f s = (spells_others bytes end n (get_or ns i 0) rest (drop (i + 1) ns) after d e f (rw (drop_first ns i h) at s)).1
 
 pub spells_at : (bytes : List ℕ) (end i : ℕ) (ns after : List ℕ) → i < length ns → end ≡ end_of (drop (i + 1) ns) → Spells [] bytes (drop i ns) after → Fielded bytes end (get_or ns i 0) (numbers_spelt (drop (i + 1) ns) ++ after)
-spells_at bytes end i ns after h e s = rw e (spells_first bytes (get_or ns i 0) (drop (i + 1) ns) after (rw drop_first at s))
-  where
-    drop_first : drop i ns ≡ get_or ns i 0 ∷ drop (i + 1) ns
-    drop_first = rw (add-one, drop-cons ns i 0 h)
+spells_at bytes end i ns after h e s = rw e (spells_first bytes (get_or ns i 0) (drop (i + 1) ns) after (rw (drop_first ns i h) at s))
 
 -- numbers kept in a list of fixed length: one more, and all
 pub spells_set : (word bytes items : List ℕ) (i n : ℕ) (ms after : List ℕ) → i < length items → Spells word bytes (take i items ++ (n ∷ ms)) after → Spells word bytes (take (i + 1) (set items i n) ++ ms) after

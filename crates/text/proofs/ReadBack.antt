@@ -1,5 +1,5 @@
 -- The text of a drawn chart is read to its end, and gives that chart.
-use Rattle.std.proofs.Common.{◌≡◌, ℕ, zero, suc, ◌+◌, ◌-◌, ◌<◌, ◌≤◌, List, [], ◌∷◌, ◌++◌, map, length, codes, sym, refl, ap, ◌∙◌, append_assoc, add-zero, arith, length-append}
+use Rattle.std.proofs.Common.{◌≡◌, ℕ, zero, suc, ◌+◌, ◌-◌, ◌<◌, ◌≤◌, List, [], ◌∷◌, ◌++◌, map, length, sym, refl, ap, ◌∙◌, append_assoc, add-zero, arith, length-append}
 use lib.ListN.{length-map}
 use Rattle.std.specs.List.{flat_map, AllByRecursion}
 use Rattle.std.proofs.lemmas.List.{append-nil}
@@ -10,7 +10,8 @@ use Rattle.drawn.specs.declared.sheet.Drawn.{Drawn}
 use Rattle.drawn.specs.Rules as rules
 use Rattle.drawn.specs.Rules.{blank, move_count, adjusted, with_move, with_vertex, with_adjusted, after, place_outcome, placed}
 use Rattle.drawn.specs.Meaning.{sheet}
-use Rattle.drawn.specs.Readings.{sheet_ranged, size_is, count_is}
+use Rattle.drawn.specs.Readings.{sheet_ranged, size_is}
+use Rattle.drawn.proofs.Standing.{count_is}
 use Rattle.drawn.proofs.Outcomes.{place_done, join_done}
 use Rattle.text.specs.Lines.{vertices, vertex, moves, move, spelt}
 use Rattle.text.specs.Tokens.{Lined}

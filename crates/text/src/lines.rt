@@ -17,10 +17,7 @@ pub(crate) struct Line<'a, const N: usize> {
 }
 
 /// The N numbers on a line that begins with the word, and what stands behind the line.
-pub(crate) fn numbers_line<'a, const N: usize>(
-    bytes: &'a [u8],
-    word: &[u8],
-) -> Option<Line<'a, N>>
+pub(crate) fn numbers_line<'a, const N: usize>(bytes: &'a [u8], word: &[u8]) -> Option<Line<'a, N>>
     ensures { MatchOption result ((numbers rest : List ℕ) → length numbers ≡ N → Spells word.now bytes.now numbers rest → ⊥) (λ x. Spells word.now bytes.now x.numbers x.rest.now) }
 {
     let mut rest = after(bytes, word)?;
@@ -32,7 +29,7 @@ pub(crate) fn numbers_line<'a, const N: usize>(
 }
 
 /// The byte behind a number that so many more follow on its line.
-fn end_behind(more: usize) -> u8
+pub(crate) fn end_behind(more: usize) -> u8
     ensures is { (numbers : List ℕ) → length numbers ≡ more → result ≡ end_of numbers }
     ensures plain { is_ascii_digit result ≡ false }
 {

@@ -71,9 +71,10 @@ fn draw_vertices<'a>(
             return Err(wrong_line(here));
         };
         let [owner, colour] = vertex.numbers;
-        chart
-            .place(owner, colour)
-            .map_err(|refusal| Misread { line: here, refusal })?;
+        chart.place(owner, colour).map_err(|refusal| Misread {
+            line: here,
+            refusal,
+        })?;
         rest = vertex.rest;
     }
     Ok(rest)
@@ -104,7 +105,10 @@ fn draw_moves<'a>(
         }
         chart
             .join(from as usize, to as usize, cost)
-            .map_err(|refusal| Misread { line: here, refusal })?;
+            .map_err(|refusal| Misread {
+                line: here,
+                refusal,
+            })?;
         low = from;
         rest = step.rest;
     }

@@ -1,4 +1,4 @@
-use Rattle.std.proofs.Common.{rules, ◌+◌, [], ◌∷◌, drop, refl, arith, length-drop}
+use Rattle.std.proofs.Common.{rules, ◌+◌, [], ◌∷◌, refl, arith, length-drop}
 use Rattle.std.proofs.lemmas.List.{length-replicate}
 use Rattle.text.proofs.Fields.{spells_word, word_spells, spells_more, spells_behind, spells_at, spells_set, spells_all}
 use Rattle.text.proofs.lines.numbers_line.Goals as goal

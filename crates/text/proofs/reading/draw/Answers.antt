@@ -1,4 +1,4 @@
-use Rattle.std.proofs.Common.{◌≡◌, ◌+◌, [], length, get_or, sym, refl, ap, ap₂, rules}
+use Rattle.std.proofs.Common.{◌≡◌, [], length, sym, refl, ap, ap₂, rules}
 use Rattle.std.proofs.lemmas.Result.{err_from_is_err_and}
 use Rattle.std.proofs.lemmas.List.{nil_from_length}
 use Rattle.std.proofs.lemmas.Bool.{eqb-true, eqb-false}
@@ -6,7 +6,6 @@ use Rattle.chart.specs.Refusals.{refused}
 use Rattle.drawn.specs.Rules.{blank}
 use Rattle.drawn.specs.Meaning.{sheet}
 use Rattle.text.specs.Lines.{vertices, moves}
-use Rattle.text.specs.Tokens.{Lined}
 use Rattle.text.proofs.Fields.{spells_lined, one_of}
 use Rattle.text.proofs.Steps.{no_count, no_moves, from_vertices, from_moves_count, from_moves, all_read, more_left}
 use Rattle.text.proofs.reading.draw.Goals as goal

@@ -1,11 +1,8 @@
-use Rattle.std.proofs.Common.{◌≡◌, zero, ◌+◌, ◌-◌, ◌<◌, [], ◌∷◌, get_or, sym, ap, ◌∙◌, ap₂, rules, arith}
+use Rattle.std.proofs.Common.{◌≡◌, zero, ◌+◌, ◌-◌, sym, ap, ◌∙◌, ap₂, rules, arith}
 use Rattle.std.proofs.lemmas.Result.{err_from_is_err_and}
 use Rattle.chart.specs.Refusals.{outcome, refused, number_of, place_of}
-use Rattle.drawn.specs.Rules.{joined}
 use Rattle.drawn.specs.Meaning.{sheet}
 use Rattle.text.specs.Lines.{move}
-use Rattle.text.specs.Tokens.{Lined}
-use Rattle.text.specs.Reading.{Reads, move_due}
 use Rattle.text.proofs.Fields.{spells_lined, three_of}
 use Rattle.text.proofs.Steps.{made_of, kept_ok, no_move, low_move, refused_move, next_move}
 use Rattle.text.proofs.reading.draw_moves.Goals as goal

@@ -1,10 +1,8 @@
-use Rattle.std.proofs.Common.{◌≡◌, ◌+◌, ◌-◌, ◌<◌, sym, ap, ◌∙◌, ap₂, rules, arith}
+use Rattle.std.proofs.Common.{◌≡◌, ◌+◌, ◌-◌, sym, ap, ◌∙◌, ap₂, rules, arith}
 use Rattle.std.proofs.lemmas.Result.{err_from_is_err_and}
 use Rattle.chart.specs.Refusals.{outcome, refused, number_of, place_of}
-use Rattle.drawn.specs.Rules.{placed}
 use Rattle.drawn.specs.Meaning.{sheet}
 use Rattle.text.specs.Lines.{vertex}
-use Rattle.text.specs.Reading.{Reads, vertex_due}
 use Rattle.text.proofs.Fields.{spells_lined, two_of}
 use Rattle.text.proofs.Steps.{made_of, kept_ok, no_vertex, refused_vertex, next_vertex}
 use Rattle.text.proofs.reading.draw_vertices.Goals as goal
