@@ -120,22 +120,36 @@ lined_spells bytes line rest l = record {
   is = l.is ∙ ap (λ t. t ++ rest) (spelling line) ∙ append_assoc (word_of line) (numbers_spelt (numbers_of line)) rest;
 }
 
-pub spells_lined : (bytes : List ℕ) (line : Line) (numbers rest : List ℕ) → numbers ≡ numbers_of line → Spells (word_of line) bytes numbers rest → Lined bytes line rest
+spells_lined : (bytes : List ℕ) (line : Line) (numbers rest : List ℕ) → numbers ≡ numbers_of line → Spells (word_of line) bytes numbers rest → Lined bytes line rest
 spells_lined bytes line numbers rest e s = record {
   short = small_short line (rw e at s.small);
   is = s.is ∙ ap (λ ns. word_of line ++ (numbers_spelt ns ++ rest)) e ∙ sym (append_assoc (word_of line) (numbers_spelt (numbers_of line)) rest) ∙ ap (λ t. t ++ rest) (sym (spelling line));
 }
 
 -- the numbers of a list by their places
-pub one_of : (ns : List ℕ) → length ns ≡ 1 → ns ≡ get_or ns 0 0 ∷ []
+one_of : (ns : List ℕ) → length ns ≡ 1 → ns ≡ get_or ns 0 0 ∷ []
 one_of [] e = absurd (omega arith)
 one_of (a ∷ []) e = refl
 one_of (a ∷ b ∷ ns) e = absurd (omega arith)
 
-pub two_of : (ns : List ℕ) → length ns ≡ 2 → ns ≡ get_or ns 0 0 ∷ get_or ns 1 0 ∷ []
+two_of : (ns : List ℕ) → length ns ≡ 2 → ns ≡ get_or ns 0 0 ∷ get_or ns 1 0 ∷ []
 two_of [] e = absurd (omega arith)
 two_of (a ∷ ns) e = ap (λ t. a ∷ t) (one_of ns (omega arith))
 
-pub three_of : (ns : List ℕ) → length ns ≡ 3 → ns ≡ get_or ns 0 0 ∷ get_or ns 1 0 ∷ get_or ns 2 0 ∷ []
+three_of : (ns : List ℕ) → length ns ≡ 3 → ns ≡ get_or ns 0 0 ∷ get_or ns 1 0 ∷ get_or ns 2 0 ∷ []
 three_of [] e = absurd (omega arith)
 three_of (a ∷ ns) e = ap (λ t. a ∷ t) (two_of ns (omega arith))
+
+-- the four kinds of lines, from what their words and numbers spell
+module _ {bytes ns rest : List ℕ} where
+  pub vertices_line : Spells (codes "vertices=") bytes ns rest → length ns ≡ 1 → Lined bytes (vertices (get_or ns 0 0)) rest
+  vertices_line s long = spells_lined bytes (vertices (get_or ns 0 0)) ns rest (one_of ns long) s
+
+  pub vertex_line : Spells (codes "vertex=") bytes ns rest → length ns ≡ 2 → Lined bytes (vertex (get_or ns 0 0) (get_or ns 1 0)) rest
+  vertex_line s long = spells_lined bytes (vertex (get_or ns 0 0) (get_or ns 1 0)) ns rest (two_of ns long) s
+
+  pub moves_line : Spells (codes "moves=") bytes ns rest → length ns ≡ 1 → Lined bytes (moves (get_or ns 0 0)) rest
+  moves_line s long = spells_lined bytes (moves (get_or ns 0 0)) ns rest (one_of ns long) s
+
+  pub move_line : Spells (codes "move=") bytes ns rest → length ns ≡ 3 → Lined bytes (move (get_or ns 0 0) (get_or ns 1 0) (get_or ns 2 0)) rest
+  move_line s long = spells_lined bytes (move (get_or ns 0 0) (get_or ns 1 0) (get_or ns 2 0)) ns rest (three_of ns long) s
