@@ -1,12 +1,12 @@
 -- Numbers at the front of some bytes: where their digits end, and that one number only stands there.
-use Rattle.std.proofs.Common.{◌≡◌, ℕ, zero, suc, ◌+◌, ◌-◌, ◌*◌, ◌^◌, ◌<◌, ◌≤◌, Bool, true, false, cond, leb, List, [], ◌∷◌, ◌++◌, length, get_or, take, drop, decimal, sym, refl, ap, ◌∙◌, inl, inr, one-add, arith, length-take-le, get_or-take, rules}
+use Rattle.std.proofs.Common.{◌≡◌, ℕ, zero, suc, ◌+◌, ◌-◌, ◌*◌, ◌^◌, ◌<◌, ◌≤◌, Bool, true, false, cond, leb, List, [], ◌∷◌, ◌++◌, length, get_or, take, drop, decimal, sym, refl, ap, ◌∙◌, inl, inr, one-add, arith, get_or-take, rules}
 use Rattle.std.specs.Char.{is_ascii_digit}
 use Rattle.std.specs.List.{prefix_len}
 use Rattle.std.specs.Str.{all_ascii_digits}
 use Rattle.std.proofs.lemmas.Fmt.{decimal-digits_value, decimal_digit, digits_decimal, decimal_nonempty, length-decimal-le, first_decimal, decimal_injective}
 use Rattle.std.proofs.lemmas.Str.Parse.{IsNumeralModel, numerals_by_fold, digits_value_short}
 use Rattle.std.proofs.lemmas.List.{take_at, drop_at, take-append-drop, get_or_append_left, at_drop_more}
-use Rattle.std.proofs.lemmas.List.Sums.{prefix_len-le-length}
+use Rattle.std.proofs.lemmas.List.Folds.{length-prefix_len}
 use Rattle.std.proofs.lemmas.Bool.{and_parts, and_from, cases_lt, leb-true}
 use Rattle.text.specs.Tokens.{NoDigit, Numbered, value_of}
 
@@ -81,7 +81,7 @@ pub numbered : (bytes : List ℕ) → 0 < prefix_len is_ascii_digit bytes → pr
     Numbered bytes (value_of 0 (take (prefix_len is_ascii_digit bytes) bytes)) (drop (prefix_len is_ascii_digit bytes) bytes)
 numbered bytes some few lead =
     let ds : List ℕ = take (prefix_len is_ascii_digit bytes) bytes in
-    let long : length ds ≡ prefix_len is_ascii_digit bytes = front_length in
+    let long : length ds ≡ prefix_len is_ascii_digit bytes = length-prefix_len is_ascii_digit bytes in
     let small : value_of 0 ds < 100000 = digits_value_short own ds 5 (digits_lead bytes) (omega arith) in
     record {
       small = small;
@@ -89,16 +89,13 @@ numbered bytes some few lead =
       is = sym (take-append-drop (prefix_len is_ascii_digit bytes) bytes) ∙ ap (λ t. t ++ drop (prefix_len is_ascii_digit bytes) bytes) (sym (decimal-digits_value own ds (digits_lead bytes) (omega arith) lone (omega arith)));
     }
   where
-    front_length : length (take (prefix_len is_ascii_digit bytes) bytes) ≡ prefix_len is_ascii_digit bytes
-    front_length = length-take-le (prefix_len is_ascii_digit bytes) bytes (prefix_len-le-length is_ascii_digit bytes)
-
     first_same : get_or (take (prefix_len is_ascii_digit bytes) bytes) 0 0 ≡ get_or bytes 0 0
     first_same = get_or-take (prefix_len is_ascii_digit bytes) bytes 0 0 some
 
     lone : get_or (take (prefix_len is_ascii_digit bytes) bytes) 0 0 ≡ 48 → length (take (prefix_len is_ascii_digit bytes) bytes) ≡ 1
     lone e = elim (cases_lt 1 (prefix_len is_ascii_digit bytes)) [
       | inl h ↦ absurd (lead h (sym first_same ∙ e))
-      | inr h ↦ omega (arith, front_length)
+      | inr h ↦ omega (arith, length-prefix_len is_ascii_digit bytes)
     ]
 
 -- one turn of the loop that reads digits
@@ -124,8 +121,10 @@ pub record Runs (bytes run rest : List ℕ) : Type 0 where
   pub back : rest ≡ drop (prefix_len is_ascii_digit bytes) bytes
   pub long : length run ≡ prefix_len is_ascii_digit bytes
 
-pub runs : (bytes run rest : List ℕ) (k : ℕ) → k ≡ prefix_len is_ascii_digit bytes → run ≡ take k bytes → rest ≡ drop k bytes → length run ≡ k → Runs bytes run rest
-runs bytes run rest k is front back long = record { front = rw (sym is) front; back = rw (sym is) back; long = omega arith }
+pub runs : (bytes run rest : List ℕ) (k : ℕ) → k ≡ prefix_len is_ascii_digit bytes → run ≡ take k bytes → rest ≡ drop k bytes → Runs bytes run rest
+runs bytes run rest k is front back =
+    let whole : run ≡ take (prefix_len is_ascii_digit bytes) bytes = rw (sym is) front in
+    record { front = whole; back = rw (sym is) back; long = ap length whole ∙ length-prefix_len is_ascii_digit bytes }
 
 module _ (bytes run rest : List ℕ) (r : Runs bytes run rest) where
   first_same : 0 < length run → get_or run 0 0 ≡ get_or bytes 0 0

@@ -1,9 +1,8 @@
 -- Reading a string of bytes ends in one way only.
-use Rattle.std.proofs.Common.{◌≡◌, ℕ, zero, suc, ◌+◌, cond, List, length, get_or, Some, nat_eq, sym, refl, ap, ◌∙◌, ap₂, arith}
+use Rattle.std.proofs.Common.{◌≡◌, ℕ, zero, suc, ◌+◌, List, sym, ap, ◌∙◌}
 use Rattle.chart.specs.Arena.{Arena}
 use Rattle.chart.specs.Refusals.{Outcome, refused}
-use Rattle.text.specs.Lines.{Line, vertices, vertex, moves, move}
-use Rattle.text.specs.Tokens.{Lined}
+use Rattle.text.specs.Lines.{Line}
 use Rattle.text.specs.Reading.{Due, count_due, vertex_due, move_due, next, Finished, Begins, drawn_by, Reads, whole, wrong, declined, onward}
 use Rattle.text.proofs.Fields.{numbers_of, one_spelling}
 use Rattle.text.proofs.Steps.{none_some, some_same, done_same, done_refused, none_due, due_word, due_line, is_due, begun}

@@ -3,6 +3,7 @@ use Rattle.std.proofs.Common.{◌≡◌, ℕ, suc, ◌+◌, ◌/◌, ◌%◌, �
 use borrow.Rule.Slice.PartMut.{put_mid}
 use Rattle.std.specs.List.{flat_map}
 use Rattle.std.proofs.lemmas.List.{append-nil, take_at, drop_at, drop-drop, take_more, take_all}
+use Rattle.std.proofs.lemmas.Grind.{flat_map-append}
 use Rattle.std.proofs.lemmas.Fmt.{decimal_digit, decimal_step, length-decimal-le}
 use Rattle.chart.specs.Arena.{Arena, Vertex, size}
 use Rattle.drawn.specs.Rules.{move_count}
@@ -50,16 +51,12 @@ module _ (out bytes : List ℕ) (at : ℕ) where
 pub last_digit : (n : ℕ) → n < 10 → (48 + n % 10) ∷ [] ≡ decimal n
 last_digit n h = let same : n % 10 ≡ n = omega arith in ap (λ d. (48 + d) ∷ []) same ∙ sym (decimal_digit n h)
 
-pub joined_append : {X : Type 0} (f : X → List ℕ) (xs ys : List X) → flat_map f (xs ++ ys) ≡ flat_map f xs ++ flat_map f ys
-joined_append f [] ys = refl
-joined_append f (x ∷ xs) ys = ap (λ t. f x ++ t) (joined_append f xs ys) ∙ sym (append_assoc (f x) (flat_map f xs) (flat_map f ys))
-
 -- one element more of a list that is put
 pub put_more : {X : Type 0} (f : X → List ℕ) (xs : List X) (i : ℕ) (d : X) (entry between exit : List ℕ) (at to end : ℕ) → i < length xs →
     Adds (flat_map f (take i xs)) entry at between to → Adds (f (get_or xs i d)) between to exit end → Adds (flat_map f (take (i + 1) xs)) entry at exit end
 put_more f xs i d entry between exit at to end h a b =
     adds_same (flat_map f (take i xs) ++ f (get_or xs i d)) (flat_map f (take (i + 1) xs)) entry exit at end
-    (ap (λ t. flat_map f (take i xs) ++ t) (sym (append-nil (f (get_or xs i d)))) ∙ sym (joined_append f (take i xs) (get_or xs i d ∷ [])) ∙ ap (flat_map f) (sym (take_more xs i d h)))
+    (ap (λ t. flat_map f (take i xs) ++ t) (sym (append-nil (f (get_or xs i d)))) ∙ sym (flat_map-append f (take i xs) (get_or xs i d ∷ [])) ∙ ap (flat_map f) (sym (take_more xs i d h)))
     (adds_more (flat_map f (take i xs)) (f (get_or xs i d)) entry between exit at to end a b)
 
 pub move_lines_push : (k : ℕ) (vs : List Vertex) (v : Vertex) → move_lines k (vs ++ v ∷ []) ≡ move_lines k vs ++ map (move_line (k + length vs)) v.moves
@@ -112,12 +109,12 @@ put_vertex_moves vs i d entry between exit at to end h a b =
     let lines : move_lines 0 (take (i + 1) vs) ≡ move_lines 0 (take i vs) ++ map (move_line i) (get_or vs i d).moves =
     ap (move_lines 0) (take_more vs i d h) ∙ move_lines_push 0 (take i vs) (get_or vs i d) ∙ ap (λ n. move_lines 0 (take i vs) ++ map (move_line n) (get_or vs i d).moves) here in
     adds_same (flat_map spelt (move_lines 0 (take i vs)) ++ flat_map spelt (map (move_line i) (get_or vs i d).moves)) (flat_map spelt (move_lines 0 (take (i + 1) vs))) entry exit at end
-    (sym (ap (flat_map spelt) lines ∙ joined_append spelt (move_lines 0 (take i vs)) (map (move_line i) (get_or vs i d).moves)))
+    (sym (ap (flat_map spelt) lines ∙ flat_map-append spelt (move_lines 0 (take i vs)) (map (move_line i) (get_or vs i d).moves)))
     (adds_more (flat_map spelt (move_lines 0 (take i vs))) (flat_map spelt (map (move_line i) (get_or vs i d).moves)) entry between exit at to end a b)
 
 -- the whole text, part by part
 pub text_parts : (a : Arena) → spelt (vertices (size a)) ++ (flat_map spelt (map vertex_line a.vertices) ++ (spelt (moves (move_count a.vertices)) ++ flat_map spelt (move_lines 0 a.vertices))) ≡ text_of a
-text_parts a = ap (λ t. spelt (vertices (size a)) ++ t) (sym (joined_append spelt (map vertex_line a.vertices) (moves (move_count a.vertices) ∷ move_lines 0 a.vertices)))
+text_parts a = ap (λ t. spelt (vertices (size a)) ++ t) (sym (flat_map-append spelt (map vertex_line a.vertices) (moves (move_count a.vertices) ∷ move_lines 0 a.vertices)))
 
 -- what bytes hold once a text was put at their front
 pub held : (text entry exit : List ℕ) (end : ℕ) → Adds text entry 0 exit end → Holds entry exit end text

@@ -2,6 +2,7 @@
 use Rattle.std.proofs.Common.{◌≡◌, ℕ, zero, suc, ◌+◌, ◌<◌, ◌≤◌, Bool, true, false, cond, leb, List, [], ◌∷◌, ◌++◌, map, length, get_or, Some, None, sym, refl, ap, ◌∙◌, ap₂, inl, inr, append_assoc, arith}
 use lib.ListN.{length-map}
 use Rattle.std.specs.List.{flat_map, AllByRecursion}
+use Rattle.std.proofs.lemmas.Grind.{flat_map-append}
 use Rattle.std.proofs.lemmas.List.{append-nil, length_push, map_push}
 use Rattle.std.proofs.ByRecursion.{All-push}
 use Rattle.std.proofs.lemmas.Bool.{leb-true, cases_lt}
@@ -16,7 +17,7 @@ use Rattle.text.specs.Reading.{Due, count_due, vertex_due, move_due, next, Finis
 use Rattle.text.specs.Writing.{vertex_line, move_line, move_lines, text_of}
 use Rattle.text.proofs.Fields.{numbers_of}
 use Rattle.text.proofs.Steps.{none_some, some_same, done_same, done_refused, due_line, is_due}
-use Rattle.text.proofs.Putting.{joined_append, text_parts}
+use Rattle.text.proofs.Putting.{text_parts}
 
 abbrev Bare : Vertex → Type 0
 Bare v = v.moves ≡ []
@@ -127,7 +128,7 @@ shift : (front line rest bytes : List ℕ) → bytes ≡ line ++ rest → front 
 shift front line rest bytes e = ap (λ t. front ++ t) e ∙ sym (append_assoc front line rest)
 
 spelt_push : (xs : List Line) (x : Line) → flat_map spelt (xs ++ x ∷ []) ≡ flat_map spelt xs ++ spelt x
-spelt_push xs x = joined_append spelt xs (x ∷ []) ∙ ap (λ t. flat_map spelt xs ++ t) (append-nil (spelt x))
+spelt_push xs x = flat_map-append spelt xs (x ∷ []) ∙ ap (λ t. flat_map spelt xs ++ t) (append-nil (spelt x))
 
 module _ (read a b : Arena) (bytes rest : List ℕ) where
   count_step : (n : ℕ) → bytes ≡ spelt (vertices n) ++ rest → a ≡ b → Claim read b (vertex_due n) rest → Claim read a count_due bytes

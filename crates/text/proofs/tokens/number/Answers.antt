@@ -5,7 +5,7 @@ use Rattle.text.proofs.tokens.number.Goals.{then-is_empty-via-then-is_empty, the
 
 pub returns-then-is_empty : goal.returns-then-is_empty
 returns-then-is_empty c n rest here =
-    let r = runs _ _ _ _ c.digits.ensures.run c.split_at.ensures.front c.split_at.ensures.back c.split_at.ensures.front_len in
+    let r = runs _ _ _ _ c.digits.ensures.run c.split_at.ensures.front c.split_at.ensures.back in
     let some = run_some_of _ _ _ r n rest here in
     let short = run_short_of _ _ _ r n rest here in
     elim c.then-is_empty.branch [
@@ -15,9 +15,9 @@ returns-then-is_empty c n rest here =
     ]
 
 pub value-requires-clause-all : goal.value-requires-clause-all
-value-requires-clause-all c = run_digits _ _ _ (runs _ _ _ _ c.digits.ensures.run c.split_at.ensures.front c.split_at.ensures.back c.split_at.ensures.front_len)
+value-requires-clause-all c = run_digits _ _ _ (runs _ _ _ _ c.digits.ensures.run c.split_at.ensures.front c.split_at.ensures.back)
 
 pub returns : goal.returns
 returns c =
-    let r = runs _ _ _ _ c.digits.ensures.run c.split_at.ensures.front c.split_at.ensures.back c.split_at.ensures.front_len in
+    let r = runs _ _ _ _ c.digits.ensures.run c.split_at.ensures.front c.split_at.ensures.back in
     rw c.value.ensures (run_numbered _ _ _ r (grind (arith, c.if-is_empty.ensures)) c.if-run-gt-MOST_DIGITS.false (λ more zero. let e = c.if-padded.ensures.1 (more, zero) in cc))
