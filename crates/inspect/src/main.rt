@@ -2,22 +2,19 @@
 
 use chart::{Chart, lowest_dead_end};
 use drawn::Drawn;
-use intake::fill;
+use intake::{MOST_BYTES, fill};
 use std::io;
 use text::read;
 use waiting::{Waiting, may_be_laid, positions};
 
 mod survey;
 
-/// No chart text is longer than 20,888 bytes; a longer input shows its first fault within this many.
-const MOST_BYTES: usize = 32768;
-
 /// Reads a chart text from standard input and tells what the chart has.
 fn main(rt: HostRuntime) -> io::Result<()> {
     let mut buffer = [0u8; MOST_BYTES];
-    let filled = fill(&rt, &mut buffer)?;
+    let text = fill(&rt, &mut buffer)?;
     let mut chart = Drawn::new();
-    match read(&mut chart, &buffer[0..filled]) {
+    match read(&mut chart, text) {
         Ok(()) => tell(&rt, chart),
         Err(misread) => println!(rt; "{misread}"),
     }

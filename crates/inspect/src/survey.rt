@@ -2,8 +2,6 @@ use chart::{Chart, Player};
 use drawn::Drawn;
 use std::io;
 
-const COLOURS: usize = 9;
-
 /// How many vertices there are, whose they are, and their colours.
 pub fn tell_vertices(rt: &impl Print, chart: &Drawn) -> io::Result<()> {
     let size = chart.size();
@@ -11,7 +9,7 @@ pub fn tell_vertices(rt: &impl Print, chart: &Drawn) -> io::Result<()> {
     println!(rt; "vertices: {size}")?;
     println!(rt; "of the controller: {}", size.saturating_sub(harbour))?;
     println!(rt; "of the harbour: {harbour}")?;
-    tell_colours(rt, &colours_used(chart))
+    tell_colours(rt, chart)
 }
 
 /// How many moves there are, and what the dearest costs.
@@ -22,44 +20,37 @@ pub fn tell_moves(rt: &impl Print, chart: &Drawn) -> io::Result<()> {
 }
 
 fn owned_by_harbour(chart: &Drawn) -> usize {
-    let mut harbour = 0usize;
-    for vertex in 0..chart.size() {
-        if let Some(Player::Harbour) = chart.owner(vertex) {
-            harbour = harbour.saturating_add(1);
-        }
-    }
-    harbour
+    (0..chart.size())
+        .filter(|vertex| chart.owner(*vertex) == Some(Player::Harbour))
+        .count()
 }
 
-fn colours_used(chart: &Drawn) -> [bool; COLOURS] {
-    let mut used = [false; COLOURS];
-    for vertex in 0..chart.size() {
-        let colour = chart.colour(vertex).unwrap_or(0) as usize;
-        if colour < COLOURS {
-            used[colour] = true;
-        }
-    }
-    used
-}
-
-fn tell_colours(rt: &impl Print, used: &[bool; COLOURS]) -> io::Result<()> {
+fn tell_colours(rt: &impl Print, chart: &Drawn) -> io::Result<()> {
     print!(rt; "colours:")?;
-    for (colour, there) in used.iter().enumerate() {
-        if *there {
+    for colour in 0..=chart.height() {
+        if has_colour(chart, colour) {
             print!(rt; " {colour}")?;
         }
     }
     println!(rt; "")
 }
 
+fn has_colour(chart: &Drawn, colour: u8) -> bool {
+    (0..chart.size()).any(|vertex| chart.colour(vertex) == Some(colour))
+}
+
 fn dearest(chart: &Drawn) -> u32 {
-    let mut most = 0;
-    for vertex in 0..chart.size() {
-        for number in 0..chart.degree(vertex).unwrap_or(0) {
-            if let Some(step) = chart.move_at(vertex, number) {
-                most = u32::max(most, step.cost);
-            }
-        }
-    }
-    most
+    (0..chart.size())
+        .map(|vertex| dearest_from(chart, vertex))
+        .max()
+        .unwrap_or(0)
+}
+
+/// What the dearest move of a vertex costs, 0 where it has none.
+fn dearest_from(chart: &Drawn, vertex: usize) -> u32 {
+    (0..chart.degree(vertex).unwrap_or(0))
+        .filter_map(|number| chart.move_at(vertex, number))
+        .map(|step| step.cost)
+        .max()
+        .unwrap_or(0)
 }

@@ -1,12 +1,12 @@
 -- Numbers at the front of some bytes: where their digits end, and that one number only stands there.
-use Rattle.std.proofs.Common.{◌≡◌, ℕ, zero, suc, ◌+◌, ◌-◌, ◌*◌, ◌^◌, ◌<◌, ◌≤◌, Bool, true, false, cond, leb, List, [], ◌∷◌, ◌++◌, length, get_or, take, drop, decimal, sym, refl, ap, ◌∙◌, inl, inr, one-add, arith, length-take-le, get_or-take, rules}
+use Rattle.std.proofs.Common.{◌≡◌, ℕ, zero, suc, ◌+◌, ◌-◌, ◌*◌, ◌^◌, ◌<◌, ◌≤◌, Bool, true, false, cond, leb, List, [], ◌∷◌, ◌++◌, length, get_or, take, drop, decimal, sym, refl, ap, ◌∙◌, inl, inr, one-add, arith, get_or-take, rules}
 use Rattle.std.specs.Char.{is_ascii_digit}
 use Rattle.std.specs.List.{prefix_len}
 use Rattle.std.specs.Str.{all_ascii_digits}
 use Rattle.std.proofs.lemmas.Fmt.{decimal-digits_value, decimal_digit, digits_decimal, decimal_nonempty, length-decimal-le, first_decimal, decimal_injective}
 use Rattle.std.proofs.lemmas.Str.Parse.{IsNumeralModel, numerals_by_fold, digits_value_short}
-use Rattle.std.proofs.lemmas.List.{take_at, drop_at, take-append-drop, get_or_append_left, at_drop_more, take_rest}
-use Rattle.std.proofs.lemmas.List.Sums.{prefix_len-le-length}
+use Rattle.std.proofs.lemmas.List.{take_at, drop_at, take-append-drop, get_or_append_left, at_drop_more}
+use Rattle.std.proofs.lemmas.List.Folds.{length-prefix_len}
 use Rattle.std.proofs.lemmas.Bool.{and_parts, and_from, cases_lt, leb-true}
 use Rattle.text.specs.Tokens.{NoDigit, Numbered, value_of}
 
@@ -81,7 +81,7 @@ pub numbered : (bytes : List ℕ) → 0 < prefix_len is_ascii_digit bytes → pr
     Numbered bytes (value_of 0 (take (prefix_len is_ascii_digit bytes) bytes)) (drop (prefix_len is_ascii_digit bytes) bytes)
 numbered bytes some few lead =
     let ds : List ℕ = take (prefix_len is_ascii_digit bytes) bytes in
-    let long : length ds ≡ prefix_len is_ascii_digit bytes = front_length in
+    let long : length ds ≡ prefix_len is_ascii_digit bytes = length-prefix_len is_ascii_digit bytes in
     let small : value_of 0 ds < 100000 = digits_value_short own ds 5 (digits_lead bytes) (omega arith) in
     record {
       small = small;
@@ -89,16 +89,13 @@ numbered bytes some few lead =
       is = sym (take-append-drop (prefix_len is_ascii_digit bytes) bytes) ∙ ap (λ t. t ++ drop (prefix_len is_ascii_digit bytes) bytes) (sym (decimal-digits_value own ds (digits_lead bytes) (omega arith) lone (omega arith)));
     }
   where
-    front_length : length (take (prefix_len is_ascii_digit bytes) bytes) ≡ prefix_len is_ascii_digit bytes
-    front_length = length-take-le (prefix_len is_ascii_digit bytes) bytes (prefix_len-le-length is_ascii_digit bytes)
-
     first_same : get_or (take (prefix_len is_ascii_digit bytes) bytes) 0 0 ≡ get_or bytes 0 0
     first_same = get_or-take (prefix_len is_ascii_digit bytes) bytes 0 0 some
 
     lone : get_or (take (prefix_len is_ascii_digit bytes) bytes) 0 0 ≡ 48 → length (take (prefix_len is_ascii_digit bytes) bytes) ≡ 1
     lone e = elim (cases_lt 1 (prefix_len is_ascii_digit bytes)) [
       | inl h ↦ absurd (lead h (sym first_same ∙ e))
-      | inr h ↦ omega (arith, front_length)
+      | inr h ↦ omega (arith, length-prefix_len is_ascii_digit bytes)
     ]
 
 -- one turn of the loop that reads digits
@@ -118,10 +115,34 @@ digit_low [] i a h = absurd (omega arith)
 digit_low (d ∷ ds) zero a h = leb-true 48 d (and_parts (leb 48 d) (leb d 57) (and_parts (is_ascii_digit d) (all_ascii_digits ds) a).0).0
 digit_low (d ∷ ds) (suc i) a h = digit_low ds i (and_parts (is_ascii_digit d) (all_ascii_digits ds) a).1 (omega arith)
 
--- a number whose run of digits ends at `end`
-pub numbered_to : (bytes : List ℕ) (end value : ℕ) → end ≡ prefix_len is_ascii_digit bytes → ¬ (end ≡ 0) → end ≤ 5 → (1 < end → get_or bytes 0 0 ≡ 48 → ⊥) →
-    value ≡ value_of 0 (take (end - 0) bytes) → Numbered bytes value (take (length bytes - end) (drop end bytes))
-numbered_to bytes end value is some few lead v =
-    let here : Numbered bytes (value_of 0 (take end bytes)) (drop end bytes) = rw is (numbered bytes (omega arith) (omega arith) (λ h. lead (omega arith))) in
-    let all : end - 0 ≡ end = omega arith in
-    rw (v, all, take_rest bytes end) here
+-- the run of digits at the front of some bytes, and what stands behind it
+pub record Runs (bytes run rest : List ℕ) : Type 0 where
+  pub front : run ≡ take (prefix_len is_ascii_digit bytes) bytes
+  pub back : rest ≡ drop (prefix_len is_ascii_digit bytes) bytes
+  pub long : length run ≡ prefix_len is_ascii_digit bytes
+
+pub runs : (bytes run rest : List ℕ) (k : ℕ) → k ≡ prefix_len is_ascii_digit bytes → run ≡ take k bytes → rest ≡ drop k bytes → Runs bytes run rest
+runs bytes run rest k is front back =
+    let whole : run ≡ take (prefix_len is_ascii_digit bytes) bytes = rw (sym is) front in
+    record { front = whole; back = rw (sym is) back; long = ap length whole ∙ length-prefix_len is_ascii_digit bytes }
+
+module _ (bytes run rest : List ℕ) (r : Runs bytes run rest) where
+  first_same : 0 < length run → get_or run 0 0 ≡ get_or bytes 0 0
+  first_same some = ap (λ t. get_or t 0 0) r.front ∙ get_or-take (prefix_len is_ascii_digit bytes) bytes 0 0 (omega (arith, r.long))
+
+  pub run_digits : all_ascii_digits run ≡ true
+  run_digits = ap all_ascii_digits r.front ∙ digits_lead bytes
+
+  -- where a number stands, the run is its digits
+  pub run_some_of : (n : ℕ) (other : List ℕ) → Numbered bytes n other → 0 < length run
+  run_some_of n other here = omega (arith, r.long, run_some bytes n other here)
+
+  pub run_short_of : (n : ℕ) (other : List ℕ) → Numbered bytes n other → length run ≤ 5
+  run_short_of n other here = omega (arith, r.long, run_short bytes n other here)
+
+  pub run_plain_of : (n : ℕ) (other : List ℕ) → Numbered bytes n other → 1 < length run → get_or run 0 0 ≡ 48 → ⊥
+  run_plain_of n other here h e = no_leading_zero bytes n other here (omega (arith, r.long)) (sym (first_same (omega arith)) ∙ e)
+
+  pub run_numbered : 0 < length run → length run ≤ 5 → (1 < length run → get_or run 0 0 ≡ 48 → ⊥) → Numbered bytes (value_of 0 run) rest
+  run_numbered some few plain =
+      rw (r.front, r.back) (numbered bytes (omega (arith, r.long)) (omega (arith, r.long)) (λ h e. plain (omega (arith, r.long)) (first_same some ∙ e)))

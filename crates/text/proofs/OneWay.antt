@@ -1,86 +1,27 @@
 -- Reading a string of bytes ends in one way only.
-use Rattle.std.proofs.Common.{◌≡◌, ℕ, zero, suc, ◌+◌, List, Some, codes, sym, refl, ap, ◌∙◌, ap₂, arith}
+use Rattle.std.proofs.Common.{◌≡◌, ℕ, zero, suc, ◌+◌, List, sym, ap, ◌∙◌}
 use Rattle.chart.specs.Arena.{Arena}
 use Rattle.chart.specs.Refusals.{Outcome, refused}
-use Rattle.text.specs.Lines.{Line, vertices, vertex, moves, move}
-use Rattle.text.specs.Tokens.{Lined}
+use Rattle.text.specs.Lines.{Line}
 use Rattle.text.specs.Reading.{Due, count_due, vertex_due, move_due, next, Finished, Begins, drawn_by, Reads, whole, wrong, declined, onward}
-use Rattle.text.proofs.Fields.{one_count, one_vertex, one_move, lined_vertices, lined_moves}
-use Rattle.text.proofs.Steps.{none_some, some_same, done_same, done_refused}
+use Rattle.text.proofs.Fields.{numbers_of, one_spelling}
+use Rattle.text.proofs.Steps.{none_some, some_same, done_same, done_refused, none_due, due_word, due_line, is_due, begun}
 
 -- nothing begins where all is read
 finished_begins : (due : Due) (bytes : List ℕ) (line : Line) (rest : List ℕ) (then : Due) → Finished due bytes → ¬ Begins due bytes line rest then
 finished_begins count_due bytes line rest then f b = f
 finished_begins (vertex_due k) bytes line rest then f b = f
-finished_begins (move_due zero low) bytes (vertices n) rest then f b = none_some b.expected
-finished_begins (move_due zero low) bytes (vertex o c) rest then f b = none_some b.expected
-finished_begins (move_due zero low) bytes (moves n) rest then f b = none_some b.expected
-finished_begins (move_due zero low) bytes (move g t c) rest then f b = none_some b.expected
+finished_begins (move_due zero low) bytes line rest then f b = none_some (sym (none_due low line) ∙ b.expected)
 finished_begins (move_due (suc k) low) bytes line rest then f b = f
 
--- the kinds of lines, and the one that is due
-kind : Line → ℕ
-kind (vertices n) = 0
-kind (vertex o c) = 1
-kind (moves n) = 2
-kind (move f t c) = 3
-
-due_kind : Due → ℕ
-due_kind count_due = 0
-due_kind (vertex_due zero) = 2
-due_kind (vertex_due (suc k)) = 1
-due_kind (move_due zero low) = 4
-due_kind (move_due (suc k) low) = 3
-
-kind_due : (due : Due) (line : Line) (then : Due) → next due line ≡ Some then → kind line ≡ due_kind due
-unfolding kind due_kind
-kind_due count_due (vertices n) then e = refl
-kind_due count_due (vertex o c) then e = absurd (none_some e)
-kind_due count_due (moves n) then e = absurd (none_some e)
-kind_due count_due (move f t c) then e = absurd (none_some e)
-kind_due (vertex_due zero) (vertices n) then e = absurd (none_some e)
-kind_due (vertex_due zero) (vertex o c) then e = absurd (none_some e)
-kind_due (vertex_due zero) (moves n) then e = refl
-kind_due (vertex_due zero) (move f t c) then e = absurd (none_some e)
-kind_due (vertex_due (suc k)) (vertices n) then e = absurd (none_some e)
-kind_due (vertex_due (suc k)) (vertex o c) then e = refl
-kind_due (vertex_due (suc k)) (moves n) then e = absurd (none_some e)
-kind_due (vertex_due (suc k)) (move f t c) then e = absurd (none_some e)
-kind_due (move_due zero low) (vertices n) then e = absurd (none_some e)
-kind_due (move_due zero low) (vertex o c) then e = absurd (none_some e)
-kind_due (move_due zero low) (moves n) then e = absurd (none_some e)
-kind_due (move_due zero low) (move f t c) then e = absurd (none_some e)
-kind_due (move_due (suc k) low) (vertices n) then e = absurd (none_some e)
-kind_due (move_due (suc k) low) (vertex o c) then e = absurd (none_some e)
-kind_due (move_due (suc k) low) (moves n) then e = absurd (none_some e)
-kind_due (move_due (suc k) low) (move f t c) then e = refl
-
--- a line of a kind that begins the bytes is the only one
-same_line : (bytes : List ℕ) (line other : Line) (rest remains : List ℕ) → kind line ≡ kind other → Lined bytes line rest → Lined bytes other remains → (line ≡ other) × (rest ≡ remains)
-unfolding kind
-same_line bytes (vertices n) (vertices m) rest remains e a b = let p = one_count (codes "vertices=") bytes n m rest remains (lined_vertices bytes n rest a) (lined_vertices bytes m remains b) in (ap vertices p.0, p.1)
-same_line bytes (vertices n) (vertex o c) rest remains e a b = absurd (omega arith)
-same_line bytes (vertices n) (moves m) rest remains e a b = absurd (omega arith)
-same_line bytes (vertices n) (move f t c) rest remains e a b = absurd (omega arith)
-same_line bytes (vertex o c) (vertices n) rest remains e a b = absurd (omega arith)
-same_line bytes (vertex o c) (vertex p d) rest remains e a b = let s = one_vertex bytes o c p d rest remains a b in (ap₂ vertex s.0 s.1, s.2)
-same_line bytes (vertex o c) (moves n) rest remains e a b = absurd (omega arith)
-same_line bytes (vertex o c) (move f t d) rest remains e a b = absurd (omega arith)
-same_line bytes (moves n) (vertices m) rest remains e a b = absurd (omega arith)
-same_line bytes (moves n) (vertex o c) rest remains e a b = absurd (omega arith)
-same_line bytes (moves n) (moves m) rest remains e a b = let p = one_count (codes "moves=") bytes n m rest remains (lined_moves bytes n rest a) (lined_moves bytes m remains b) in (ap moves p.0, p.1)
-same_line bytes (moves n) (move f t c) rest remains e a b = absurd (omega arith)
-same_line bytes (move f t c) (vertices n) rest remains e a b = absurd (omega arith)
-same_line bytes (move f t c) (vertex o d) rest remains e a b = absurd (omega arith)
-same_line bytes (move f t c) (moves n) rest remains e a b = absurd (omega arith)
-same_line bytes (move f t c) (move g u d) rest remains e a b =
-    let s = one_move bytes f t c g u d rest remains a b in
-    (ap (λ x. move x t c) s.0 ∙ ap₂ (λ x y. move g x y) s.1 s.2, s.3)
-
+-- one line that is due begins the bytes
 one_line : (due : Due) (bytes : List ℕ) (line other : Line) (rest remains : List ℕ) (then now : Due) → Begins due bytes line rest then → Begins due bytes other remains now → (line ≡ other) × (rest ≡ remains) × (then ≡ now)
 one_line due bytes line other rest remains then now a b =
-    let p = same_line bytes line other rest remains (kind_due due line then a.expected ∙ sym (kind_due due other now b.expected)) a.lined b.lined in
-    (p.0, p.1, some_same (sym a.expected ∙ ap (next due) p.0 ∙ b.expected))
+    let d = is_due due line then a.expected in
+    let e = is_due due other now b.expected in
+    let p = one_spelling (due_word due) bytes (numbers_of line) (numbers_of other) rest remains (d.many ∙ sym e.many) (begun due bytes line rest then a) (begun due bytes other remains now b) in
+    let same : line ≡ other = d.is ∙ ap (due_line due) p.0 ∙ sym e.is in
+    (same, p.1, some_same (sym a.expected ∙ ap (next due) same ∙ b.expected))
 
 refused_same : {A : Type 0} (n p m q : ℕ) → ◌≡◌ {A = Outcome A} (refused n p) (refused m q) → n ≡ m
 refused_same n p m q e = cc

@@ -1,12 +1,14 @@
 -- Bytes put one behind the other.
-use Rattle.std.proofs.Common.{◌≡◌, ℕ, suc, ◌+◌, ◌/◌, ◌%◌, ◌<◌, ◌≤◌, List, [], ◌∷◌, ◌++◌, map, length, get_or, take, drop, decimal, sym, refl, ap, ◌∙◌, subst, ap₂, append_assoc, add-zero, arith, length-append, length-drop, length-take-le}
+use Rattle.std.proofs.Common.{◌≡◌, ℕ, suc, ◌+◌, ◌/◌, ◌%◌, ◌^◌, ◌<◌, ◌≤◌, List, [], ◌∷◌, ◌++◌, map, length, get_or, take, drop, decimal, sym, refl, ap, ◌∙◌, subst, ap₂, append_assoc, add-zero, arith, length-append, length-drop, length-take-le}
 use borrow.Rule.Slice.PartMut.{put_mid}
 use Rattle.std.specs.List.{flat_map}
 use Rattle.std.proofs.lemmas.List.{append-nil, take_at, drop_at, drop-drop, take_more, take_all}
+use Rattle.std.proofs.lemmas.Grind.{flat_map-append}
 use Rattle.std.proofs.lemmas.Fmt.{decimal_digit, decimal_step, length-decimal-le}
 use Rattle.chart.specs.Arena.{Arena, Vertex, size}
 use Rattle.drawn.specs.Rules.{move_count}
-use Rattle.text.specs.Lines.{vertices, moves, spelt}
+use Rattle.text.specs.Lines.{vertices, moves, spelt, end_of, numbers_spelt}
+use Rattle.text.proofs.Fields.{drop_first}
 use Rattle.text.specs.Writing.{Holds, Adds, vertex_line, move_line, move_lines, text_of}
 
 pub adds_none : (entry : List ℕ) (at : ℕ) → Adds [] entry at entry at
@@ -49,19 +51,12 @@ module _ (out bytes : List ℕ) (at : ℕ) where
 pub last_digit : (n : ℕ) → n < 10 → (48 + n % 10) ∷ [] ≡ decimal n
 last_digit n h = let same : n % 10 ≡ n = omega arith in ap (λ d. (48 + d) ∷ []) same ∙ sym (decimal_digit n h)
 
-pub more_digits : (n : ℕ) → 10 ≤ n → n < 100000 → decimal (n / 10) ++ (48 + n % 10) ∷ [] ≡ decimal n
-more_digits n h small = sym (decimal_step n h (omega arith))
-
-pub joined_append : {X : Type 0} (f : X → List ℕ) (xs ys : List X) → flat_map f (xs ++ ys) ≡ flat_map f xs ++ flat_map f ys
-joined_append f [] ys = refl
-joined_append f (x ∷ xs) ys = ap (λ t. f x ++ t) (joined_append f xs ys) ∙ sym (append_assoc (f x) (flat_map f xs) (flat_map f ys))
-
 -- one element more of a list that is put
 pub put_more : {X : Type 0} (f : X → List ℕ) (xs : List X) (i : ℕ) (d : X) (entry between exit : List ℕ) (at to end : ℕ) → i < length xs →
     Adds (flat_map f (take i xs)) entry at between to → Adds (f (get_or xs i d)) between to exit end → Adds (flat_map f (take (i + 1) xs)) entry at exit end
 put_more f xs i d entry between exit at to end h a b =
     adds_same (flat_map f (take i xs) ++ f (get_or xs i d)) (flat_map f (take (i + 1) xs)) entry exit at end
-    (ap (λ t. flat_map f (take i xs) ++ t) (sym (append-nil (f (get_or xs i d)))) ∙ sym (joined_append f (take i xs) (get_or xs i d ∷ [])) ∙ ap (flat_map f) (sym (take_more xs i d h)))
+    (ap (λ t. flat_map f (take i xs) ++ t) (sym (append-nil (f (get_or xs i d)))) ∙ sym (flat_map-append f (take i xs) (get_or xs i d ∷ [])) ∙ ap (flat_map f) (sym (take_more xs i d h)))
     (adds_more (flat_map f (take i xs)) (f (get_or xs i d)) entry between exit at to end a b)
 
 pub move_lines_push : (k : ℕ) (vs : List Vertex) (v : Vertex) → move_lines k (vs ++ v ∷ []) ≡ move_lines k vs ++ map (move_line (k + length vs)) v.moves
@@ -71,21 +66,29 @@ move_lines_push k (x ∷ vs) v =
     ap (λ t. map (move_line k) x.moves ++ t) (move_lines_push (suc k) vs v ∙ ap (λ n. move_lines (suc k) vs ++ map (move_line n) v.moves) next)
     ∙ sym (append_assoc (map (move_line k) x.moves) (move_lines (suc k) vs) (map (move_line (k + suc (length vs))) v.moves))
 
-module _ (n at end : ℕ) (entry exit : List ℕ) (small : n < 100000) where
-  pub put_last_digit : n < 10 → Adds ((48 + n % 10) ∷ []) entry at exit end → Adds (decimal n) entry at exit end
-  put_last_digit h a = adds_same ((48 + n % 10) ∷ []) (decimal n) entry exit at end (last_digit n h) a
+module _ (n : ℕ) (fits : n < 2 ^ 64) where
+  pub put_last_digit : (entry exit : List ℕ) (at end : ℕ) → n < 10 → Adds ((48 + n % 10) ∷ []) entry at exit end → Adds (decimal n) entry at exit end
+  put_last_digit entry exit at end h a = adds_same ((48 + n % 10) ∷ []) (decimal n) entry exit at end (last_digit n h) a
 
-  pub put_more_digits : (between : List ℕ) (front : ℕ) → 10 ≤ n → Adds (decimal (n / 10)) entry at between front → Adds ((48 + n % 10) ∷ []) between front exit end → Adds (decimal n) entry at exit end
-  put_more_digits between front h a b = adds_same (decimal (n / 10) ++ (48 + n % 10) ∷ []) (decimal n) entry exit at end (more_digits n h small) (adds_more (decimal (n / 10)) ((48 + n % 10) ∷ []) entry between exit at front end a b)
+  pub put_more_digits : (entry between exit : List ℕ) (at front end : ℕ) → 10 ≤ n → Adds (decimal (n / 10)) entry at between front → Adds ((48 + n % 10) ∷ []) between front exit end → Adds (decimal n) entry at exit end
+  put_more_digits entry between exit at front end h a b =
+      adds_same (decimal (n / 10) ++ (48 + n % 10) ∷ []) (decimal n) entry exit at end (sym (decimal_step n h fits)) (adds_more (decimal (n / 10)) ((48 + n % 10) ∷ []) entry between exit at front end a b)
 
-pub length_last_digit : (n : ℕ) → n < 10 → length (decimal n) ≡ 1
-length_last_digit n h = ap length (decimal_digit n h)
+  pub length_last_digit : n < 10 → length (decimal n) ≡ 1
+  length_last_digit h = ap length (decimal_digit n h)
 
-pub length_more_digits : (n : ℕ) → 10 ≤ n → n < 100000 → length (decimal n) ≡ length (decimal (n / 10)) + 1
-length_more_digits n h small = ap length (sym (more_digits n h small)) ∙ length-append (decimal (n / 10)) ((48 + n % 10) ∷ [])
+  pub length_more_digits : 10 ≤ n → length (decimal n) ≡ length (decimal (n / 10)) + 1
+  length_more_digits h = ap length (decimal_step n h fits) ∙ length-append (decimal (n / 10)) ((48 + n % 10) ∷ [])
 
-pub length_short : (n : ℕ) → n < 100000 → length (decimal n) ≤ 5
-length_short n small = length-decimal-le 5 n (omega arith) (omega arith) (omega arith)
+  pub length_number : length (decimal n) ≤ 20
+  length_number = length-decimal-le 20 n (omega arith) (omega arith) fits
+
+-- one number more of a line
+pub put_numbers : (ns : List ℕ) (i e : ℕ) (entry one two exit : List ℕ) (at to last end : ℕ) → i < length ns → e ≡ end_of (drop (i + 1) ns) →
+    Adds (decimal (get_or ns i 0)) entry at one to → Adds (e ∷ []) one to two last → Adds (numbers_spelt (drop (i + 1) ns)) two last exit end → Adds (numbers_spelt (drop i ns)) entry at exit end
+put_numbers ns i e entry one two exit at to last end h is a b d =
+    rw (drop_first ns i h) (adds_more (decimal (get_or ns i 0)) (end_of (drop (i + 1) ns) ∷ numbers_spelt (drop (i + 1) ns)) entry one exit at to end a
+    (adds_more (end_of (drop (i + 1) ns) ∷ []) (numbers_spelt (drop (i + 1) ns)) one two exit to last end (rw is at b) d))
 
 pub joined_map : {X Y : Type 0} (f : Y → List ℕ) (g : X → Y) (xs : List X) → flat_map (λ x. f (g x)) xs ≡ flat_map f (map g xs)
 joined_map f g [] = refl
@@ -106,12 +109,12 @@ put_vertex_moves vs i d entry between exit at to end h a b =
     let lines : move_lines 0 (take (i + 1) vs) ≡ move_lines 0 (take i vs) ++ map (move_line i) (get_or vs i d).moves =
     ap (move_lines 0) (take_more vs i d h) ∙ move_lines_push 0 (take i vs) (get_or vs i d) ∙ ap (λ n. move_lines 0 (take i vs) ++ map (move_line n) (get_or vs i d).moves) here in
     adds_same (flat_map spelt (move_lines 0 (take i vs)) ++ flat_map spelt (map (move_line i) (get_or vs i d).moves)) (flat_map spelt (move_lines 0 (take (i + 1) vs))) entry exit at end
-    (sym (ap (flat_map spelt) lines ∙ joined_append spelt (move_lines 0 (take i vs)) (map (move_line i) (get_or vs i d).moves)))
+    (sym (ap (flat_map spelt) lines ∙ flat_map-append spelt (move_lines 0 (take i vs)) (map (move_line i) (get_or vs i d).moves)))
     (adds_more (flat_map spelt (move_lines 0 (take i vs))) (flat_map spelt (map (move_line i) (get_or vs i d).moves)) entry between exit at to end a b)
 
 -- the whole text, part by part
 pub text_parts : (a : Arena) → spelt (vertices (size a)) ++ (flat_map spelt (map vertex_line a.vertices) ++ (spelt (moves (move_count a.vertices)) ++ flat_map spelt (move_lines 0 a.vertices))) ≡ text_of a
-text_parts a = ap (λ t. spelt (vertices (size a)) ++ t) (sym (joined_append spelt (map vertex_line a.vertices) (moves (move_count a.vertices) ∷ move_lines 0 a.vertices)))
+text_parts a = ap (λ t. spelt (vertices (size a)) ++ t) (sym (flat_map-append spelt (map vertex_line a.vertices) (moves (move_count a.vertices) ∷ move_lines 0 a.vertices)))
 
 -- what bytes hold once a text was put at their front
 pub held : (text entry exit : List ℕ) (end : ℕ) → Adds text entry 0 exit end → Holds entry exit end text

@@ -1,7 +1,8 @@
 -- The text of a drawn chart is read to its end, and gives that chart.
-use Rattle.std.proofs.Common.{◌≡◌, ℕ, zero, suc, ◌+◌, ◌-◌, ◌<◌, ◌≤◌, List, [], ◌∷◌, ◌++◌, map, length, codes, sym, refl, ap, ◌∙◌, append_assoc, add-zero, arith, length-append}
+use Rattle.std.proofs.Common.{◌≡◌, ℕ, zero, suc, ◌+◌, ◌-◌, ◌<◌, ◌≤◌, List, [], ◌∷◌, ◌++◌, map, length, sym, refl, ap, ◌∙◌, append_assoc, add-zero, arith, length-append}
 use lib.ListN.{length-map}
 use Rattle.std.specs.List.{flat_map, AllByRecursion}
+use Rattle.std.proofs.lemmas.Grind.{flat_map-append}
 use Rattle.std.proofs.lemmas.List.{append-nil}
 use Rattle.chart.specs.declared.parts.Move.{Move}
 use Rattle.chart.specs.Arena.{Arena, Vertex, RangedVertex, RangedMove, size}
@@ -10,15 +11,16 @@ use Rattle.drawn.specs.declared.sheet.Drawn.{Drawn}
 use Rattle.drawn.specs.Rules as rules
 use Rattle.drawn.specs.Rules.{blank, move_count, adjusted, with_move, with_vertex, with_adjusted, after, place_outcome, placed}
 use Rattle.drawn.specs.Meaning.{sheet}
-use Rattle.drawn.specs.Readings.{sheet_ranged, size_is, count_is}
+use Rattle.drawn.specs.Readings.{sheet_ranged, size_is}
+use Rattle.drawn.proofs.Standing.{count_is}
 use Rattle.drawn.proofs.Outcomes.{place_done, join_done}
 use Rattle.text.specs.Lines.{vertices, vertex, moves, move, spelt}
-use Rattle.text.specs.Tokens.{Counted, Lined}
+use Rattle.text.specs.Tokens.{Lined}
 use Rattle.text.specs.Reading.{Reads, count_due, vertex_due, move_due}
 use Rattle.text.specs.Writing.{vertex_line, move_line, move_lines, text_of}
-use Rattle.text.proofs.Fields.{vertices_fields, moves_fields}
 use Rattle.text.proofs.Steps.{next_count, next_vertex, next_moves, next_move, all_read}
-use Rattle.text.proofs.Putting.{joined_append, text_parts}
+use Rattle.text.proofs.OneWay.{one_way}
+use Rattle.text.proofs.Putting.{text_parts}
 
 -- a vertex before its moves are joined, and with some of them
 abbrev bare : Vertex → Vertex
@@ -104,7 +106,7 @@ join_all end front [] low k n rest wide small below ok room r =
 join_all end front (v ∷ vs) low k n rest wide small below ok room r =
     let f : ℕ = length front in
     let bytes : flat_map spelt (move_lines f (v ∷ vs)) ++ rest ≡ flat_map spelt (map (move_line f) v.moves) ++ (flat_map spelt (move_lines (suc f) vs) ++ rest) =
-    ap (λ t. t ++ rest) (joined_append spelt (map (move_line f) v.moves) (move_lines (suc f) vs)) ∙ append_assoc (flat_map spelt (map (move_line f) v.moves)) (flat_map spelt (move_lines (suc f) vs)) rest in
+    ap (λ t. t ++ rest) (flat_map-append spelt (map (move_line f) v.moves) (move_lines (suc f) vs)) ∙ append_assoc (flat_map spelt (map (move_line f) v.moves)) (flat_map spelt (move_lines (suc f) vs)) rest in
     let long : length (front ++ v ∷ []) ≡ suc f = omega (arith, length-append front (v ∷ [])) in
     let total : k + length v.moves + move_count vs ≡ k + (length v.moves + move_count vs) = omega arith in
     rw bytes (join_some end front (bare v) (map bare vs) n (omega (arith, length-append front (bare v ∷ map bare vs), length-map vs bare)) small [] v.moves (move_count vs) low k (flat_map spelt (move_lines (suc f) vs) ++ rest) below ok.0.moves
@@ -113,8 +115,8 @@ join_all end front (v ∷ vs) low k n rest wide small below ok room r =
     (join_all end (front ++ v ∷ []) vs bound (k + length v.moves) n rest (omega (arith, length-append front (v ∷ []))) small (omega arith) ok.1 (omega (arith, count_append front (v ∷ [])))
     (λ other. rw (append_assoc front (v ∷ []) vs, total) (r other)))))
 
-pub read_back : (d : Drawn) → Reads (done (sheet d)) blank count_due 1 (text_of (sheet d))
-read_back d =
+reads_back : (d : Drawn) → Reads (done (sheet d)) blank count_due 1 (text_of (sheet d))
+reads_back d =
     let a : Arena = sheet d in
     let vs : List Vertex = a.vertices in
     let end : Outcome Arena = done a in
@@ -127,9 +129,12 @@ read_back d =
     let nil : last ++ [] ≡ last = append-nil last in
     let end_of_moves : Reads end (arena (map bare vs)) (move_due (move_count vs) 0) (2 + length vs + 1) last =
     rw (sym nil) (join_all end [] vs 0 (2 + length vs + 1) (length vs) [] (omega arith) (omega (arith, d.room)) (omega arith) ok (omega (arith, d.few)) (λ bound. all_read end a (2 + length vs + 1 + move_count vs) [] bound refl refl)) in
-    let moves_counted : Counted (codes "moves=") third (move_count vs) last = record { small = omega (arith, d.few); is = moves_fields (move_count vs) last } in
-    let vertices_counted : Counted (codes "vertices=") (spelt (vertices (size a)) ++ second) (size a) second = record { small = omega (arith, d.room); is = vertices_fields (size a) second } in
+    let moves_counted : Lined third (moves (move_count vs)) last = record { short = omega (arith, d.few); is = refl } in
+    let vertices_counted : Lined (spelt (vertices (size a)) ++ second) (vertices (size a)) second = record { short = omega (arith, d.room); is = refl } in
     rw (sym (text_parts a))
     (next_count end blank 1 (spelt (vertices (size a)) ++ second) (size a) second vertices_counted
     (place_all end [] vs 2 (size a) third (omega (arith, d.room)) ok
     (next_moves end (arena (map bare vs)) (2 + length vs) third (move_count vs) last moves_counted end_of_moves)))
+
+pub read_back : (d : Drawn) (end : Outcome Arena) → Reads end blank count_due 1 (text_of (sheet d)) → end ≡ done (sheet d)
+read_back d end r = one_way end (done (sheet d)) blank count_due 1 (text_of (sheet d)) r (reads_back d)

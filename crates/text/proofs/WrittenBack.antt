@@ -1,7 +1,8 @@
 -- The bytes that are read and accepted are the text of the chart that was read.
-use Rattle.std.proofs.Common.{◌≡◌, ℕ, zero, suc, ◌+◌, ◌<◌, ◌≤◌, Bool, true, false, cond, leb, List, [], ◌∷◌, ◌++◌, map, length, Some, None, sym, refl, ap, ◌∙◌, ap₂, inl, inr, append_assoc, arith}
+use Rattle.std.proofs.Common.{◌≡◌, ℕ, zero, suc, ◌+◌, ◌<◌, ◌≤◌, Bool, true, false, cond, leb, List, [], ◌∷◌, ◌++◌, map, length, get_or, Some, None, sym, refl, ap, ◌∙◌, ap₂, inl, inr, append_assoc, arith}
 use lib.ListN.{length-map}
 use Rattle.std.specs.List.{flat_map, AllByRecursion}
+use Rattle.std.proofs.lemmas.Grind.{flat_map-append}
 use Rattle.std.proofs.lemmas.List.{append-nil, length_push, map_push}
 use Rattle.std.proofs.ByRecursion.{All-push}
 use Rattle.std.proofs.lemmas.Bool.{leb-true, cases_lt}
@@ -14,8 +15,9 @@ use Rattle.drawn.proofs.Outcomes.{join_from}
 use Rattle.text.specs.Lines.{Line, vertices, vertex, moves, move, spelt}
 use Rattle.text.specs.Reading.{Due, count_due, vertex_due, move_due, next, Finished, drawing, drawn_by, Reads, whole, wrong, declined, onward}
 use Rattle.text.specs.Writing.{vertex_line, move_line, move_lines, text_of}
-use Rattle.text.proofs.Steps.{none_some, some_same, done_same, done_refused}
-use Rattle.text.proofs.Putting.{joined_append, text_parts}
+use Rattle.text.proofs.Fields.{numbers_of}
+use Rattle.text.proofs.Steps.{none_some, some_same, done_same, done_refused, due_line, is_due}
+use Rattle.text.proofs.Putting.{text_parts}
 
 abbrev Bare : Vertex → Type 0
 Bare v = v.moves ≡ []
@@ -126,7 +128,7 @@ shift : (front line rest bytes : List ℕ) → bytes ≡ line ++ rest → front 
 shift front line rest bytes e = ap (λ t. front ++ t) e ∙ sym (append_assoc front line rest)
 
 spelt_push : (xs : List Line) (x : Line) → flat_map spelt (xs ++ x ∷ []) ≡ flat_map spelt xs ++ spelt x
-spelt_push xs x = joined_append spelt xs (x ∷ []) ∙ ap (λ t. flat_map spelt xs ++ t) (append-nil (spelt x))
+spelt_push xs x = flat_map-append spelt xs (x ∷ []) ∙ ap (λ t. flat_map spelt xs ++ t) (append-nil (spelt x))
 
 module _ (read a b : Arena) (bytes rest : List ℕ) where
   count_step : (n : ℕ) → bytes ≡ spelt (vertices n) ++ rest → a ≡ b → Claim read b (vertex_due n) rest → Claim read a count_due bytes
@@ -184,37 +186,28 @@ module _ (read a b : Arena) (bytes rest : List ℕ) where
       }
 
 -- a line that is due and drawn
-one_step : (read a b : Arena) (due then : Due) (line : Line) (bytes rest : List ℕ) → next due line ≡ Some then → bytes ≡ spelt line ++ rest → drawn_by a line ≡ done b → Claim read b then rest → Claim read a due bytes
-one_step read a b count_due then (vertices n) bytes rest e is d claim = count_step read a b bytes rest n is (done_same d) (rw (sym (some_same e)) at claim)
-one_step read a b count_due then (vertex o c) bytes rest e is d claim = absurd (none_some e)
-one_step read a b count_due then (moves n) bytes rest e is d claim = absurd (none_some e)
-one_step read a b count_due then (move f t c) bytes rest e is d claim = absurd (none_some e)
-one_step read a b (vertex_due zero) then (vertices n) bytes rest e is d claim = absurd (none_some e)
-one_step read a b (vertex_due zero) then (vertex o c) bytes rest e is d claim = absurd (none_some e)
-one_step read a b (vertex_due zero) then (moves n) bytes rest e is d claim = moves_step read a b bytes rest n is (done_same d) (rw (sym (some_same e)) at claim)
-one_step read a b (vertex_due zero) then (move f t c) bytes rest e is d claim = absurd (none_some e)
-one_step read a b (vertex_due (suc k)) then (vertices n) bytes rest e is d claim = absurd (none_some e)
-one_step read a b (vertex_due (suc k)) then (vertex o c) bytes rest e is d claim = vertex_step read a b bytes rest o c k is (placing a b o c d) (rw (sym (some_same e)) at claim)
-one_step read a b (vertex_due (suc k)) then (moves n) bytes rest e is d claim = absurd (none_some e)
-one_step read a b (vertex_due (suc k)) then (move f t c) bytes rest e is d claim = absurd (none_some e)
-one_step read a b (move_due zero low) then (vertices n) bytes rest e is d claim = absurd (none_some e)
-one_step read a b (move_due zero low) then (vertex o c) bytes rest e is d claim = absurd (none_some e)
-one_step read a b (move_due zero low) then (moves n) bytes rest e is d claim = absurd (none_some e)
-one_step read a b (move_due zero low) then (move f t c) bytes rest e is d claim = absurd (none_some e)
-one_step read a b (move_due (suc k) low) then (vertices n) bytes rest e is d claim = absurd (none_some e)
-one_step read a b (move_due (suc k) low) then (vertex o c) bytes rest e is d claim = absurd (none_some e)
-one_step read a b (move_due (suc k) low) then (moves n) bytes rest e is d claim = absurd (none_some e)
-one_step read a b (move_due (suc k) low) then (move f t c) bytes rest e is d claim = go (leb low f) refl e
+one_step : (read a b : Arena) (due then : Due) (ns bytes rest : List ℕ) → next due (due_line due ns) ≡ Some then → bytes ≡ spelt (due_line due ns) ++ rest → drawn_by a (due_line due ns) ≡ done b → Claim read b then rest → Claim read a due bytes
+one_step read a b count_due then ns bytes rest e is d claim = count_step read a b bytes rest (get_or ns 0 0) is (done_same d) (rw (sym (some_same e)) at claim)
+one_step read a b (vertex_due zero) then ns bytes rest e is d claim = moves_step read a b bytes rest (get_or ns 0 0) is (done_same d) (rw (sym (some_same e)) at claim)
+one_step read a b (vertex_due (suc k)) then ns bytes rest e is d claim =
+    vertex_step read a b bytes rest (get_or ns 0 0) (get_or ns 1 0) k is (placing a b (get_or ns 0 0) (get_or ns 1 0) d) (rw (sym (some_same e)) at claim)
+one_step read a b (move_due zero low) then ns bytes rest e is d claim = absurd (none_some e)
+one_step read a b (move_due (suc k) low) then ns bytes rest e is d claim = go (leb low f) refl e
   where
+    f : ℕ
+    f = get_or ns 0 0
+
     go : (x : Bool) → leb low f ≡ x → cond x (Some (move_due k f)) None ≡ Some then → Claim read a (move_due (suc k) low) bytes
-    go true h i = let j = joining a b f t c d in move_step read a b bytes rest f t c k low (leb-true low f h) is j.0 j.1 (rw (sym (some_same i)) at claim)
+    go true h i = let j = joining a b f (get_or ns 1 0) (get_or ns 2 0) d in move_step read a b bytes rest f (get_or ns 1 0) (get_or ns 2 0) k low (leb-true low f h) is j.0 j.1 (rw (sym (some_same i)) at claim)
     go false h i = absurd (none_some i)
 
 claimed : (read a : Arena) (due : Due) (k : ℕ) (bytes : List ℕ) → Reads (done read) a due k bytes → Claim read a due bytes
 claimed read a due k bytes (whole f e) = at_end read a due bytes f (done_same e)
 claimed read a due k bytes (wrong nf none e) = absurd (done_refused e)
 claimed read a due k bytes (declined line rest then n p b d e) = absurd (done_refused e)
-claimed read a due k bytes (onward line rest then b x d r) = one_step read a b due then line bytes rest x.expected x.lined.is d (claimed read b then (k + 1) rest r)
+claimed read a due k bytes (onward line rest then b x d r) =
+    let line_is = (is_due due line then x.expected).is in
+    one_step read a b due then (numbers_of line) bytes rest (sym (ap (next due) line_is) ∙ x.expected) (x.lined.is ∙ ap (λ l. spelt l ++ rest) line_is) (sym (ap (drawn_by a) line_is) ∙ d) (claimed read b then (k + 1) rest r)
 
 pub written_back : (bytes : List ℕ) (a : Arena) → Reads (done a) blank count_due 1 bytes → text_of a ≡ bytes
 written_back bytes a r = claimed a blank count_due 1 bytes r refl

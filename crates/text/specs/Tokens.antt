@@ -1,7 +1,8 @@
 -- What stands at the front of some bytes: a word, a number, or a line.
 use Rattle.std.specs.Prelude.{◌≡◌, ℕ, ◌+◌, ◌-◌, ◌*◌, ◌<◌, false, List, [], ◌∷◌, ◌++◌, decimal}
 use Rattle.std.specs.Char.{is_ascii_digit}
-use Rattle.text.specs.Lines.{Line, spelt, Short}
+use Rattle.std.specs.List.{AllByRecursion}
+use Rattle.text.specs.Lines.{Line, spelt, numbers_spelt, Short}
 
 -- no digit is the first of them
 abbrev pub NoDigit : List ℕ → Type 0
@@ -28,6 +29,11 @@ pub record Counted (word bytes : List ℕ) (n : ℕ) (rest : List ℕ) : Type 0 
 pub record Lined (bytes : List ℕ) (line : Line) (rest : List ℕ) : Type 0 where
   pub short : Short line
   pub is : bytes ≡ spelt line ++ rest
+
+-- A word, and behind it numbers of at most five digits, as a line spells them.
+pub record Spells (word bytes numbers rest : List ℕ) : Type 0 where
+  pub small : AllByRecursion (λ n. n < 100000) numbers
+  pub is : bytes ≡ word ++ (numbers_spelt numbers ++ rest)
 
 -- The number that digits write behind those that wrote n.
 abbrev pub value_of : ℕ → List ℕ → ℕ

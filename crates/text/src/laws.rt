@@ -1,22 +1,19 @@
 ghost use Rattle.text.specs.Laws.{WrittenIsReadBack, ReadIsWrittenBack, ReadingEndsInOneWay};
 
 /// What is written is read back as the same chart, for every drawn chart.
-pub fn written_is_read_back() -> u8
+#[tactic(auto, using(crate::proofs::ReadBack::read_back))]
+pub fn written_is_read_back()
     ensures { WrittenIsReadBack }
-{
-    0
-}
+{}
 
 /// What is read and accepted is written back as the same bytes, for every string of bytes.
-pub fn read_is_written_back() -> u8
+#[tactic(auto, using(crate::proofs::WrittenBack::written_back))]
+pub fn read_is_written_back()
     ensures { ReadIsWrittenBack }
-{
-    0
-}
+{}
 
 /// Reading a string of bytes ends in one way only.
-pub fn reading_ends_in_one_way() -> u8
+#[tactic(auto, using(crate::proofs::OneWay::one_way))]
+pub fn reading_ends_in_one_way()
     ensures { ReadingEndsInOneWay }
-{
-    0
-}
+{}

@@ -1,6 +1,7 @@
-ghost use Rattle.std.specs.Prelude.{ℕ, List, MatchOption};
-ghost use Rattle.text.specs.Lines.{vertex, move};
-ghost use Rattle.text.specs.Tokens.{Counted, Lined};
+ghost use Rattle.std.specs.Prelude.{◌≡◌, ℕ, List, length, MatchOption, false};
+ghost use Rattle.std.specs.Char.{is_ascii_digit};
+ghost use Rattle.text.specs.Lines.{end_of};
+ghost use Rattle.text.specs.Tokens.{Spells};
 
 use super::tokens::{after, field};
 
@@ -8,50 +9,32 @@ const COMMA: u8 = b',';
 
 const LINE_END: u8 = b'\n';
 
-/// The number on a line of one word and one number, and what stands behind the line.
-pub(crate) fn count_line<'a>(bytes: &'a [u8], word: &[u8]) -> Option<(u32, &'a [u8])>
-    ensures { MatchOption result ((n : ℕ) (rest : List ℕ) → Counted word.now bytes.now n rest → ⊥) (λ x. Counted word.now bytes.now x.0 x.1.now) }
-{
-    let Some(numbers) = after(bytes, word) else {
-        return None;
-    };
-    let Some((number, rest)) = field(numbers, LINE_END) else {
-        return None;
-    };
-    Some((number, rest))
+/// The numbers on a line, and what stands behind the line.
+#[derive(Drop)]
+pub(crate) struct Line<'a, const N: usize> {
+    pub(crate) numbers: [u32; N],
+    pub(crate) rest: &'a [u8],
 }
 
-/// The owner and the colour on a vertex's line, and what stands behind the line.
-pub(crate) fn vertex_line(bytes: &[u8]) -> Option<(u32, u32, &[u8])>
-    ensures { MatchOption result ((owner colour : ℕ) (rest : List ℕ) → Lined bytes.now (vertex owner colour) rest → ⊥) (λ x. Lined bytes.now (vertex x.0 x.1) x.2.now) }
+/// The N numbers on a line that begins with the word, and what stands behind the line.
+pub(crate) fn numbers_line<'a, const N: usize>(bytes: &'a [u8], word: &[u8]) -> Option<Line<'a, N>>
+    ensures { MatchOption result ((numbers rest : List ℕ) → length numbers ≡ N → Spells word.now bytes.now numbers rest → ⊥) (λ x. Spells word.now bytes.now x.numbers x.rest.now) }
 {
-    let Some(numbers) = after(bytes, b"vertex=") else {
-        return None;
-    };
-    let Some((owner, rest)) = field(numbers, COMMA) else {
-        return None;
-    };
-    let Some((colour, rest)) = field(rest, LINE_END) else {
-        return None;
-    };
-    Some((owner, colour, rest))
+    let mut rest = after(bytes, word)?;
+    let mut numbers = [0; N];
+    for (place, number) in numbers.iter_mut().enumerate() {
+        (*number, rest) = field(rest, end_behind(N - 1 - place))?;
+    }
+    Some(Line { numbers, rest })
 }
 
-/// The two ends and the cost on a move's line, and what stands behind the line.
-pub(crate) fn move_line(bytes: &[u8]) -> Option<(u32, u32, u32, &[u8])>
-    ensures { MatchOption result ((from to cost : ℕ) (rest : List ℕ) → Lined bytes.now (move from to cost) rest → ⊥) (λ x. Lined bytes.now (move x.0 x.1 x.2) x.3.now) }
+/// The byte behind a number that so many more follow on its line.
+pub(crate) fn end_behind(more: usize) -> u8
+    ensures is { (numbers : List ℕ) → length numbers ≡ more → result ≡ end_of numbers }
+    ensures plain { is_ascii_digit result ≡ false }
 {
-    let Some(numbers) = after(bytes, b"move=") else {
-        return None;
-    };
-    let Some((from, rest)) = field(numbers, COMMA) else {
-        return None;
-    };
-    let Some((to, rest)) = field(rest, COMMA) else {
-        return None;
-    };
-    let Some((cost, rest)) = field(rest, LINE_END) else {
-        return None;
-    };
-    Some((from, to, cost, rest))
+    match more {
+        0 => LINE_END,
+        _ => COMMA,
+    }
 }

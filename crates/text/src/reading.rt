@@ -1,11 +1,11 @@
 ghost use Rattle.std.specs.Prelude.{◌≡◌, ℕ, zero, ◌+◌, ◌<◌, ◌≤◌, MatchResult};
 ghost use Rattle.chart.specs.Arena.{Arena};
-ghost use Rattle.chart.specs.Refusals.{Outcome, refused, number_of};
+ghost use Rattle.chart.specs.Refusals.{Outcome, done, refused, number_of};
 ghost use Rattle.drawn.specs.Meaning.{sheet};
 ghost use Rattle.drawn.specs.Rules.{blank};
 ghost use Rattle.text.specs.Reading.{Reads, count_due, vertex_due, move_due, told, left};
 
-use super::lines::{count_line, move_line, vertex_line};
+use super::lines::numbers_line;
 use super::misread::Misread;
 use chart::Refusal;
 use drawn::Drawn;
@@ -15,34 +15,32 @@ pub fn read(chart: &mut Drawn, text: &[u8]) -> Result<(), Misread>
     ensures answer { Reads (told result (sheet chart.new)) blank count_due 1 text.now }
     ensures kept { left result (sheet chart.old) (sheet chart.new) }
 {
-    let mut drawn = Drawn::new();
-    match draw(&mut drawn, text) {
-        Ok(()) => {
-            *chart = drawn;
-            Ok(())
-        }
-        Err(misread) => Err(misread),
-    }
+    *chart = draw(text)?;
+    Ok(())
 }
 
-/// Draws what the text says on a blank chart.
-fn draw(chart: &mut Drawn, text: &[u8]) -> Result<(), Misread>
-    requires { sheet chart.old ≡ blank }
-    ensures { Reads (told result (sheet chart.new)) blank count_due 1 text.now }
+/// The chart that the text draws.
+fn draw(text: &[u8]) -> Result<Drawn, Misread>
+    ensures { MatchResult result
+        (λ chart. Reads (done (sheet chart)) blank count_due 1 text.now)
+        (λ e. Reads (refused (number_of e.refusal) e.line) blank count_due 1 text.now) }
 {
-    let Some((vertices, rest)) = count_line(text, b"vertices=") else {
+    let mut chart = Drawn::new();
+    let Some(counted) = numbers_line::<1>(text, b"vertices=") else {
         return Err(wrong_line(1));
     };
-    let rest = draw_vertices(chart, rest, vertices, 2)?;
+    let [vertices] = counted.numbers;
+    let rest = draw_vertices(&mut chart, counted.rest, vertices, 2)?;
     let line = vertices as usize + 2;
-    let Some((moves, rest)) = count_line(rest, b"moves=") else {
+    let Some(counted) = numbers_line::<1>(rest, b"moves=") else {
         return Err(wrong_line(line));
     };
-    let rest = draw_moves(chart, rest, moves, line + 1)?;
+    let [moves] = counted.numbers;
+    let rest = draw_moves(&mut chart, counted.rest, moves, line + 1)?;
     if !rest.is_empty() {
         return Err(wrong_line(line + 1 + moves as usize));
     }
-    Ok(())
+    Ok(chart)
 }
 
 fn wrong_line(line: usize) -> Misread
@@ -69,16 +67,15 @@ fn draw_vertices<'a>(
     let mut rest = text;
     for done in 0..count {
         let here = line + done as usize;
-        let Some((owner, colour, next)) = vertex_line(rest) else {
+        let Some(vertex) = numbers_line::<2>(rest, b"vertex=") else {
             return Err(wrong_line(here));
         };
-        if let Err(refusal) = chart.place(owner, colour) {
-            return Err(Misread {
-                line: here,
-                refusal,
-            });
-        }
-        rest = next;
+        let [owner, colour] = vertex.numbers;
+        chart.place(owner, colour).map_err(|refusal| Misread {
+            line: here,
+            refusal,
+        })?;
+        rest = vertex.rest;
     }
     Ok(rest)
 }
@@ -99,20 +96,21 @@ fn draw_moves<'a>(
     let mut low = 0;
     for done in 0..count {
         let here = line + done as usize;
-        let Some((from, to, cost, next)) = move_line(rest) else {
+        let Some(step) = numbers_line::<3>(rest, b"move=") else {
             return Err(wrong_line(here));
         };
+        let [from, to, cost] = step.numbers;
         if from < low {
             return Err(wrong_line(here));
         }
-        if let Err(refusal) = chart.join(from as usize, to as usize, cost) {
-            return Err(Misread {
+        chart
+            .join(from as usize, to as usize, cost)
+            .map_err(|refusal| Misread {
                 line: here,
                 refusal,
-            });
-        }
+            })?;
         low = from;
-        rest = next;
+        rest = step.rest;
     }
     Ok(rest)
 }

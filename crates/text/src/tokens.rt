@@ -1,4 +1,4 @@
-ghost use Rattle.std.specs.Prelude.{◌≡◌, ℕ, ◌+◌, ◌*◌, ◌<◌, ◌≤◌, true, false, List, ◌++◌, length, MatchOption, ◌≢◌};
+ghost use Rattle.std.specs.Prelude.{◌≡◌, ℕ, ◌+◌, ◌*◌, ◌<◌, ◌≤◌, true, false, List, ◌++◌, length, slice_index, IsTrue, MatchOption, ◌≢◌, ◌↔◌};
 ghost use Rattle.std.specs.Char.{is_ascii_digit};
 ghost use Rattle.std.specs.List.{prefix_len};
 ghost use Rattle.std.specs.Str.{all_ascii_digits};
@@ -10,16 +10,7 @@ const MOST_DIGITS: usize = 5;
 pub(crate) fn after<'a>(bytes: &'a [u8], word: &[u8]) -> Option<&'a [u8]>
     ensures { MatchOption result ((rest : List ℕ) → bytes.now ≢ word.now ++ rest) (λ x. bytes.now ≡ word.now ++ x.now) }
 {
-    let n = word.len();
-    if bytes.len() < n {
-        return None;
-    }
-    for i in 0..n {
-        if bytes[i] != word[i] {
-            return None;
-        }
-    }
-    Some(&bytes[n..])
+    bytes.strip_prefix(word)
 }
 
 /// How many digits stand at the front.
@@ -27,12 +18,10 @@ fn digits(bytes: &[u8]) -> usize
     ensures run { result ≡ prefix_len is_ascii_digit bytes.now }
     ensures within { result ≤ length bytes.now }
 {
-    for (i, byte) in bytes.iter().enumerate() {
-        if !byte.is_ascii_digit() {
-            return i;
-        }
-    }
-    bytes.len()
+    bytes
+        .iter()
+        .take_while(|byte| byte.is_ascii_digit())
+        .count()
 }
 
 /// The number that at most five digits write.
@@ -48,19 +37,23 @@ fn value(digits: &[u8]) -> u32
     number
 }
 
+/// There are two digits or more, and the first is 0.
+fn padded(digits: &[u8]) -> bool
+    ensures { IsTrue result ↔ ((1 < length digits.now) × (slice_index digits.now 0 ≡ 48)) }
+{
+    matches!(digits, [b'0', _, ..])
+}
+
 /// The number at the front, of at most five digits and with no leading zero
 /// but 0 itself, and what stands behind its last digit.
 pub(crate) fn number(bytes: &[u8]) -> Option<(u32, &[u8])>
     ensures { MatchOption result ((n : ℕ) (rest : List ℕ) → Numbered bytes.now n rest → ⊥) (λ x. Numbered bytes.now x.0 x.1.now) }
 {
-    let end = digits(bytes);
-    if end == 0 || end > MOST_DIGITS {
+    let (run, rest) = bytes.split_at(digits(bytes));
+    if run.is_empty() || run.len() > MOST_DIGITS || padded(run) {
         return None;
     }
-    if end > 1 && bytes[0] == b'0' {
-        return None;
-    }
-    Some((value(&bytes[0..end]), &bytes[end..]))
+    Some((value(run), rest))
 }
 
 /// The number at the front that the byte `end` ends, and what stands behind that.
@@ -68,11 +61,7 @@ pub(crate) fn field(bytes: &[u8], end: u8) -> Option<(u32, &[u8])>
     requires { is_ascii_digit end ≡ false }
     ensures { MatchOption result ((n : ℕ) (rest : List ℕ) → Fielded bytes.now end n rest → ⊥) (λ x. Fielded bytes.now end x.0 x.1.now) }
 {
-    let Some((n, ended)) = number(bytes) else {
-        return None;
-    };
-    let Some(rest) = after(ended, &[end]) else {
-        return None;
-    };
-    Some((n, rest))
+    let (number, ended) = number(bytes)?;
+    let rest = after(ended, &[end])?;
+    Some((number, rest))
 }

@@ -1,10 +1,11 @@
-ghost use Rattle.std.specs.Prelude.{◌≡◌, ◌+◌, ◌<◌, ◌≤◌, [], ◌∷◌, ◌++◌, map, length, decimal};
+ghost use Rattle.std.specs.Prelude.{◌≡◌, ◌+◌, ◌^◌, ◌<◌, ◌≤◌, ◌++◌, map, length, decimal};
 ghost use Rattle.std.specs.List.{flat_map};
 ghost use Rattle.chart.specs.Refusals.{outcome};
 ghost use Rattle.drawn.specs.Meaning.{sheet};
-ghost use Rattle.text.specs.Lines.{vertex, move, spelt};
+ghost use Rattle.text.specs.Lines.{spelt, numbers_spelt};
 ghost use Rattle.text.specs.Writing.{Adds, vertex_line, move_line, move_lines, text_of, write_outcome, written, vertex_or_none, move_or_none};
 
+use super::lines::end_behind;
 use chart::{Chart, Move, Refusal};
 use drawn::Drawn;
 
@@ -14,44 +15,39 @@ pub fn write(chart: &Drawn, out: &mut [u8]) -> Result<usize, Refusal>
     ensures answer { outcome result ≡ write_outcome (sheet chart.now) (length out.old) }
     ensures after { out.new ≡ written (sheet chart.now) out.old }
 {
-    let mut nothing = [0u8; 0];
-    let length = spell(chart, &mut nothing);
+    let length = spell(chart, &mut []);
     if length > out.len() {
         return Err(Refusal::ShortBuffer);
     }
-    let _ = spell(chart, out);
-    Ok(length)
+    Ok(spell(chart, out))
 }
 
 /// Puts the lines of the chart that fit, and answers how long they are together.
 fn spell(chart: &Drawn, out: &mut [u8]) -> usize
     ensures { Adds (text_of (sheet chart.now)) out.old 0 out.new result }
 {
-    let at = put_count(out, 0, b"vertices=", chart.size());
+    let at = put_line(out, 0, b"vertices=", &[chart.size()]);
     let at = put_vertices(chart, out, at);
-    let at = put_count(out, at, b"moves=", chart.move_count());
+    let at = put_line(out, at, b"moves=", &[chart.move_count()]);
     put_moves(chart, out, at)
 }
 
 fn put_vertices(chart: &Drawn, out: &mut [u8], start: usize) -> usize
     requires { start ≤ 100 }
     ensures adds { Adds (flat_map spelt (map vertex_line (sheet chart.now).vertices)) out.old start out.new result }
-    ensures low { result ≤ 10000 }
+    ensures low { result ≤ 20000 }
 {
     let mut at = start;
     for vertex in 0..chart.size() {
-        at = put_vertex(
-            out,
-            at,
-            owner_number(chart, vertex),
-            colour_number(chart, vertex),
-        );
+        let owner = owner_number(chart, vertex);
+        let colour = colour_number(chart, vertex);
+        at = put_line(out, at, b"vertex=", &[owner, colour]);
     }
     at
 }
 
 fn put_moves(chart: &Drawn, out: &mut [u8], start: usize) -> usize
-    requires { start ≤ 20000 }
+    requires { start ≤ 30000 }
     ensures { Adds (flat_map spelt (move_lines 0 (sheet chart.now).vertices)) out.old start out.new result }
 {
     let mut at = start;
@@ -62,15 +58,14 @@ fn put_moves(chart: &Drawn, out: &mut [u8], start: usize) -> usize
 }
 
 fn put_moves_of(chart: &Drawn, out: &mut [u8], start: usize, vertex: usize) -> usize
-    requires here { vertex < 128 }
-    requires low { start ≤ 10000000 }
+    requires { start ≤ 20000000 }
     ensures adds { Adds (flat_map spelt (map (move_line vertex) (vertex_or_none (sheet chart.now) vertex).moves)) out.old start out.new result }
-    ensures few { result ≤ start + 40960 }
+    ensures few { result ≤ start + 102400 }
 {
     let mut at = start;
     for number in 0..chart.degree(vertex).unwrap_or(0) {
         let Move { target, cost } = move_or_none(chart, vertex, number);
-        at = put_move(out, at, vertex, target, cost as usize);
+        at = put_line(out, at, b"move=", &[vertex, target, cost as usize]);
     }
     at
 }
@@ -79,91 +74,57 @@ fn put_moves_of(chart: &Drawn, out: &mut [u8], start: usize, vertex: usize) -> u
 fn owner_number(chart: &Drawn, vertex: usize) -> usize
     ensures { result ≡ (vertex_or_none (sheet chart.now) vertex).owner }
 {
-    match chart.owner(vertex) {
-        Some(owner) => owner.number() as usize,
-        None => 0,
-    }
+    chart.owner(vertex).map_or(0, u32::from) as usize
 }
 
 /// A vertex's colour, 0 for an absent vertex.
 fn colour_number(chart: &Drawn, vertex: usize) -> usize
     ensures { result ≡ (vertex_or_none (sheet chart.now) vertex).colour }
 {
-    match chart.colour(vertex) {
-        Some(colour) => colour as usize,
-        None => 0,
-    }
+    chart.colour(vertex).unwrap_or(0) as usize
 }
 
 /// A move, to vertex 0 at no cost where it is absent.
 fn move_or_none(chart: &Drawn, vertex: usize, number: usize) -> Move
     ensures { result ≡ move_or_none (sheet chart.now) vertex number }
 {
-    match chart.move_at(vertex, number) {
-        Some(step) => step,
-        None => Move { target: 0, cost: 0 },
+    let none = Move { target: 0, cost: 0 };
+    chart.move_at(vertex, number).unwrap_or(none)
+}
+
+/// Puts a line of a word and numbers.
+fn put_line(out: &mut [u8], start: usize, word: &[u8], numbers: &[usize]) -> usize
+    requires short { (length word.now ≤ 10) × (length numbers.now ≤ 3) }
+    requires low { start ≤ 100000000 }
+    ensures adds { Adds (word.now ++ numbers_spelt numbers.now) out.old start out.new result }
+    ensures few { result ≤ start + 100 }
+{
+    let mut at = put(out, start, word);
+    for (place, number) in numbers.iter().enumerate() {
+        at = put_number(out, at, *number);
+        at = put(out, at, &[end_behind(numbers.len() - 1 - place)]);
     }
-}
-
-fn put_count(out: &mut [u8], at: usize, word: &[u8], number: usize) -> usize
-    requires short { length word.now ≤ 10 }
-    requires small { number < 100000 }
-    requires low { at ≤ 100000000 }
-    ensures adds { Adds (word.now ++ (decimal number ++ (10 ∷ []))) out.old at out.new result }
-    ensures few { result ≤ at + 20 }
-{
-    let at = put(out, at, word);
-    let at = put_number(out, at, number);
-    put(out, at, b"\n")
-}
-
-fn put_vertex(out: &mut [u8], at: usize, owner: usize, colour: usize) -> usize
-    requires small { (owner < 100000) × (colour < 100000) }
-    requires low { at ≤ 100000000 }
-    ensures adds { Adds (spelt (vertex owner colour)) out.old at out.new result }
-    ensures few { result ≤ at + 40 }
-{
-    let at = put(out, at, b"vertex=");
-    let at = put_number(out, at, owner);
-    let at = put(out, at, b",");
-    let at = put_number(out, at, colour);
-    put(out, at, b"\n")
-}
-
-fn put_move(out: &mut [u8], at: usize, from: usize, to: usize, cost: usize) -> usize
-    requires small { (from < 100000) × (to < 100000) × (cost < 100000) }
-    requires low { at ≤ 100000000 }
-    ensures adds { Adds (spelt (move from to cost)) out.old at out.new result }
-    ensures few { result ≤ at + 40 }
-{
-    let at = put(out, at, b"move=");
-    let at = put_number(out, at, from);
-    let at = put(out, at, b",");
-    let at = put_number(out, at, to);
-    let at = put(out, at, b",");
-    let at = put_number(out, at, cost);
-    put(out, at, b"\n")
+    at
 }
 
 /// Puts a number in decimal.
 fn put_number(out: &mut [u8], at: usize, number: usize) -> usize
-    requires small { number < 100000 }
-    requires low { at ≤ 200000000 }
+    requires { at ≤ 200000000 }
     ensures end { result ≡ at + length (decimal number) }
-    ensures few { result ≤ at + 5 }
+    ensures few { result ≤ at + 20 }
     ensures adds { Adds (decimal number) out.old at out.new result }
 {
-    let mut front = at;
-    if number >= 10 {
-        front = put_number(out, at, number / 10);
-    }
+    let front = if number >= 10 {
+        put_number(out, at, number / 10)
+    } else {
+        at
+    };
     put(out, front, &[b'0' + (number % 10) as u8])
 }
 
 /// Puts bytes at `at` if they fit there, and answers where they end.
 fn put(out: &mut [u8], at: usize, bytes: &[u8]) -> usize
-    requires few { length bytes.now ≤ 100 }
-    requires low { at ≤ 1000000000 }
+    requires { at + length bytes.now < 2 ^ 64 }
     ensures end { result ≡ at + length bytes.now }
     ensures adds { Adds bytes.now out.old at out.new result }
 {

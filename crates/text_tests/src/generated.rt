@@ -18,11 +18,7 @@ fn next(state: u64) -> u64 {
 
 /// A number below the limit, from the upper half of the state.
 fn below(state: u64, limit: usize) -> usize {
-    if limit == 0 {
-        0
-    } else {
-        (state >> 33) as usize % limit
-    }
+    ((state >> 33) as usize).checked_rem(limit).unwrap_or(0)
 }
 
 /// The good text with one byte changed; answers whether it was still read.
@@ -32,14 +28,14 @@ fn try_changed(place: usize, byte: u8) -> Result<bool, Fail> {
         return Err(Fail::new("the good text has another length"));
     }
     text.copy_from_slice(GOOD);
-    if place >= 107 {
+    let Some(changed) = text.get_mut(place) else {
         return Err(Fail::new("a place past the text"));
-    }
-    text[place] = byte;
-    let mut chart = Drawn::new();
-    let Ok(()) = read(&mut chart, &text) else {
-        return Ok(false);
     };
+    *changed = byte;
+    let mut chart = Drawn::new();
+    if read(&mut chart, &text).is_err() {
+        return Ok(false);
+    }
     written_back(&chart, &text)?;
     Ok(true)
 }

@@ -37,9 +37,7 @@ pub fn refused(text: &[u8], number: u8, line: usize, what: &str) -> Result<(), F
 /// The text is read, and written back as the same bytes.
 pub fn accepted(text: &[u8], vertices: usize, moves: usize) -> Result<(), Fail> {
     let mut chart = standing()?;
-    let Ok(()) = read(&mut chart, text) else {
-        return Err(Fail::new("the text was refused"));
-    };
+    read(&mut chart, text)?;
     same(chart.size(), vertices, "vertices")?;
     same(chart.move_count(), moves, "moves")?;
     written_back(&chart, text)
@@ -47,19 +45,12 @@ pub fn accepted(text: &[u8], vertices: usize, moves: usize) -> Result<(), Fail> 
 
 pub fn written_back(chart: &Drawn, text: &[u8]) -> Result<(), Fail> {
     let mut out = [7u8; 24000];
-    let Ok(length) = write(chart, &mut out) else {
-        return Err(Fail::new("too few bytes"));
-    };
+    let length = write(chart, &mut out)?;
     same(length, text.len(), "bytes")?;
-    if length >= 24000 {
-        return Err(Fail::new("all bytes were written"));
-    }
-    same(out[length], 7, "the byte behind the text")?;
-    for (place, byte) in text.iter().enumerate() {
-        if place >= 24000 {
-            return Err(Fail::new("a text too long"));
-        }
-        same(out[place], *byte, "a byte of the text")?;
-    }
-    Ok(())
+    same(
+        out.get(length).copied(),
+        Some(7),
+        "the byte behind the text",
+    )?;
+    same(out.get(..length), Some(text), "the text")
 }

@@ -15,9 +15,7 @@ fn just_enough_and_one_less(rt: HostRuntime) -> Result<(), Fail> {
     assert_eq!(rt; enough[41], b'\n');
     let mut less = [9u8; 41];
     assert_eq!(rt; write(&chart, &mut less), Err(Refusal::ShortBuffer));
-    for byte in less {
-        assert_eq!(rt; byte, 9);
-    }
+    assert_eq!(rt; less, [9u8; 41]);
     assert_eq!(rt; Refusal::ShortBuffer.number(), 24);
     Ok(())
 }

@@ -1,37 +1,40 @@
-use Rattle.std.proofs.Common.{◌≡◌, zero, ◌+◌, ◌-◌, ◌<◌, sym, refl, ap₂, arith}
-use Rattle.chart.specs.Refusals.{refused, number_of, place_of}
-use Rattle.drawn.specs.Rules.{joined}
+use Rattle.std.proofs.Common.{◌≡◌, zero, ◌+◌, ◌-◌, sym, ap, ◌∙◌, ap₂, rules, arith}
+use Rattle.std.proofs.lemmas.Result.{err_from_is_err_and}
+use Rattle.chart.specs.Refusals.{outcome, refused, number_of, place_of}
 use Rattle.drawn.specs.Meaning.{sheet}
-use Rattle.text.specs.Reading.{Reads, move_due}
-use Rattle.text.proofs.Steps.{no_move, low_move, refused_move, next_move}
+use Rattle.text.proofs.Fields.{move_line}
+use Rattle.text.proofs.Steps.{made_of, kept_ok, no_move, low_move, refused_move, next_move}
 use Rattle.text.proofs.reading.draw_moves.Goals as goal
 
 pub returns-in_default : goal.returns-in_default
 returns-in_default c =
-    let left : 0 < c.args.count - c.loop-done.done = omega arith in
-    c.loop-done.invariant _ (no_move _ (sheet c.loop-done.chart) (c.args.line + c.loop-done.done) c.loop-done.rest.now (c.args.count - c.loop-done.done) c.loop-done.low left (λ f t d rest high. c.in_default.ensures f t d rest) (ap₂ refused c.wrong_line.ensures.0 c.wrong_line.ensures.1))
+    c.loop-done.invariant _ (no_move _ (sheet c.loop-done.chart) (c.args.line + c.loop-done.done) c.loop-done.rest.now (c.args.count - c.loop-done.done) c.loop-done.low (omega arith) (λ ns rest long high. c.in_default.ensures ns rest long) (ap₂ refused c.wrong_line.ensures.0 c.wrong_line.ensures.1))
 
 pub returns-then-from-low : goal.returns-then-from-low
 returns-then-from-low c =
-    let left : 0 < c.args.count - c.loop-done.done = omega arith in
     let told = c.wrong_line-then-from-low.ensures in
-    c.loop-done.invariant _ (low_move _ (sheet c.loop-done.chart) (c.args.line + c.loop-done.done) c.loop-done.rest.now (c.args.count - c.loop-done.done) c.loop-done.low c.in-Some.from c.in-Some.to c.in-Some.cost c.in-Some.next.now left c.if-from-low.true c.in-Some.ensures (ap₂ refused told.0 told.1))
+    c.loop-done.invariant _ (low_move _ (sheet c.loop-done.chart) (c.args.line + c.loop-done.done) c.loop-done.rest.now (c.args.count - c.loop-done.done) c.loop-done.low _ _ _ c.in-Some.step.rest.now (omega arith) c.if-from-low.true
+    (move_line c.in-Some.ensures (search rules)) (ap₂ refused told.0 told.1))
 
-pub returns-in-Err : goal.returns-in-Err
-returns-in-Err c =
-    let left : 0 < c.args.count - c.loop-done.done = omega arith in
-    let e = c.in-Err.refusal in
-    c.loop-done.invariant _ (refused_move _ (sheet c.loop-done.chart) (c.args.line + c.loop-done.done) c.loop-done.rest.now (c.args.count - c.loop-done.done) c.loop-done.low c.in-Some.from c.in-Some.to c.in-Some.cost c.in-Some.next.now (number_of e) (place_of e) left c.if-from-low.false c.in-Some.ensures (sym c.in-Err.ensures.answer) refl)
+pub returns-in_err-map_err : goal.returns-in_err-map_err
+returns-in_err-map_err c =
+    let p = err_from_is_err_and c.from_residual.result c.from_residual.ensures.1 in
+    let q = made_of _ c.join.result c.map_err.result c.in_err-map_err.field-0.0 c.map_err.ensures.cases c.in_err-map_err.was in
+    let refusal : c.in_err-map_err.field-0.0.refusal ≡ q.0 = search rules in
+    let line : c.in_err-map_err.field-0.0.line ≡ c.args.line + c.loop-done.done = search rules in
+    rw (p.1, p.2) (c.loop-done.invariant _ (refused_move _ (sheet c.loop-done.chart) (c.args.line + c.loop-done.done) c.loop-done.rest.now (c.args.count - c.loop-done.done) c.loop-done.low _ _ _ c.in-Some.step.rest.now (number_of q.0) (place_of q.0) (omega arith) c.if-from-low.false
+    (move_line c.in-Some.ensures (search rules))
+    (sym c.join.ensures.answer ∙ ap outcome q.1) (ap₂ (λ r l. refused (number_of r) l) refusal line)))
 
 pub loop-done-preserved : goal.loop-done-preserved
 loop-done-preserved c end r =
     let a = sheet c.loop-done.chart in
-    let left : 0 < c.args.count - c.loop-done.done = omega arith in
     let fewer : c.args.count - (c.loop-done.done + 1) ≡ c.args.count - c.loop-done.done - 1 = omega arith in
     let later : c.args.line + (c.loop-done.done + 1) ≡ c.args.line + c.loop-done.done + 1 = omega arith in
-    let drawn : sheet c.join.new.self ≡ joined a c.in-Some.from c.in-Some.to c.in-Some.cost = c.join.ensures.after in
-    let next : Reads end (joined a c.in-Some.from c.in-Some.to c.in-Some.cost) (move_due (c.args.count - c.loop-done.done - 1) c.in-Some.from) (c.args.line + c.loop-done.done + 1) c.in-Some.next.now = rw (drawn, fewer, later) at r in
-    c.loop-done.invariant end (next_move end a (c.args.line + c.loop-done.done) c.loop-done.rest.now (c.args.count - c.loop-done.done) c.loop-done.low c.in-Some.from c.in-Some.to c.in-Some.cost c.in-Some.next.now c.in_default-join.field-0 left c.if-from-low.false c.in-Some.ensures (sym c.in_default-join.ensures.answer) next)
+    let ok = kept_ok _ c.join.result c.map_err.result _ c.map_err.ensures.cases c.in_ok-map_err.was in
+    c.loop-done.invariant end (next_move end a (c.args.line + c.loop-done.done) c.loop-done.rest.now (c.args.count - c.loop-done.done) c.loop-done.low _ _ _ c.in-Some.step.rest.now _ (omega arith) c.if-from-low.false
+    (move_line c.in-Some.ensures (search rules))
+    (sym c.join.ensures.answer ∙ ap outcome ok) (rw (c.join.ensures.after, fewer, later) at r))
 
 pub returns : goal.returns
 returns c end ready =

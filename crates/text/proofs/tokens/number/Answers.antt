@@ -1,37 +1,23 @@
-use Rattle.std.proofs.Common.{◌≡◌, ◌-◌, take, ap, ◌∙◌, arith, length-take-le}
-use Rattle.std.specs.Char.{is_ascii_digit}
-use Rattle.std.specs.List.{prefix_len}
-use Rattle.std.specs.Str.{all_ascii_digits}
-use Rattle.text.proofs.Numerals.{run_some, run_short, no_leading_zero, digits_lead, numbered_to}
+use Rattle.std.proofs.Common.{refl, arith}
+use Rattle.text.proofs.Numerals.{runs, run_digits, run_some_of, run_short_of, run_plain_of, run_numbered}
 use Rattle.text.proofs.tokens.number.Goals as goal
-use Rattle.text.proofs.tokens.number.Goals.{then-end-eq0-via-then-end-eq0, then-end-eq0-via-else-end-eq0+then-end-gt-MOST_DIGITS, else-end-gt1-via-then-end-gt1+else-bytes-eq48, else-end-gt1-via-else-end-gt1}
+use Rattle.text.proofs.tokens.number.Goals.{then-is_empty-via-then-is_empty, then-is_empty-via-else-is_empty+then-run-gt-MOST_DIGITS, then-is_empty-via-else-is_empty+else-run-gt-MOST_DIGITS+then-padded}
 
-pub returns-then-end-eq0 : goal.returns-then-end-eq0
-returns-then-end-eq0 c n rest here =
-    let some = run_some c.args.bytes.now n rest here in
-    let few = run_short c.args.bytes.now n rest here in
-    elim c.then-end-eq0.branch [
-      | then-end-eq0-via-then-end-eq0 w ↦ omega (arith, w.if-end-eq0.true, c.digits-end.ensures.run)
-      | then-end-eq0-via-else-end-eq0+then-end-gt-MOST_DIGITS w ↦ omega (arith, w.if-end-gt-MOST_DIGITS.true, c.digits-end.ensures.run)
+pub returns-then-is_empty : goal.returns-then-is_empty
+returns-then-is_empty c n rest here =
+    let r = runs _ _ _ _ c.digits.ensures.run c.split_at.ensures.front c.split_at.ensures.back in
+    let some = run_some_of _ _ _ r n rest here in
+    let short = run_short_of _ _ _ r n rest here in
+    elim c.then-is_empty.branch [
+      | then-is_empty-via-then-is_empty w ↦ grind (arith, w.if-is_empty.ensures)
+      | then-is_empty-via-else-is_empty+then-run-gt-MOST_DIGITS w ↦ omega (arith, w.if-run-gt-MOST_DIGITS.true)
+      | then-is_empty-via-else-is_empty+else-run-gt-MOST_DIGITS+then-padded w ↦ let p = w.if-padded.ensures.0 refl in run_plain_of _ _ _ r n rest here p.0 p.1
     ]
 
-pub returns-then-bytes-eq48 : goal.returns-then-bytes-eq48
-returns-then-bytes-eq48 c n rest here = no_leading_zero c.args.bytes.now n rest here (omega (arith, c.if-end-gt1.true, c.digits-end.ensures.run)) c.if-bytes-eq48.true
-
-pub value-requires : goal.value-requires
-value-requires c =
-    let bs = c.args.bytes.now in
-    let run : c.digits-end.result - 0 ≡ prefix_len is_ascii_digit bs = omega (arith, c.digits-end.ensures.run) in
-    record {
-      all = ap (λ n. all_ascii_digits (take n bs)) run ∙ digits_lead bs;
-      few = omega (arith, length-take-le (c.digits-end.result - 0) bs (omega (arith, c.digits-end.ensures.within)), c.if-end-gt-MOST_DIGITS.false);
-    }
+pub value-requires-clause-all : goal.value-requires-clause-all
+value-requires-clause-all c = run_digits _ _ _ (runs _ _ _ _ c.digits.ensures.run c.split_at.ensures.front c.split_at.ensures.back)
 
 pub returns : goal.returns
 returns c =
-    numbered_to c.args.bytes.now c.digits-end.result c.value.result c.digits-end.ensures.run c.if-end-eq0.false c.if-end-gt-MOST_DIGITS.false
-    (λ h zero. elim c.else-end-gt1.branch [
-      | else-end-gt1-via-then-end-gt1+else-bytes-eq48 w ↦ w.if-bytes-eq48.false zero
-      | else-end-gt1-via-else-end-gt1 w ↦ omega (arith, w.if-end-gt1.false)
-    ])
-    c.value.ensures
+    let r = runs _ _ _ _ c.digits.ensures.run c.split_at.ensures.front c.split_at.ensures.back in
+    rw c.value.ensures (run_numbered _ _ _ r (grind (arith, c.if-is_empty.ensures)) c.if-run-gt-MOST_DIGITS.false (λ more zero. let e = c.if-padded.ensures.1 (more, zero) in cc))

@@ -1,10 +1,6 @@
-use Rattle.std.proofs.Common.{[]}
 use Rattle.drawn.specs.Meaning.{sheet}
-use Rattle.text.proofs.Absent.{found, missed}
+use Rattle.text.proofs.Absent.{asked}
 use Rattle.text.proofs.writing.colour_number.Goals as goal
 
-pub returns-in-Some : goal.returns-in-Some
-returns-in-Some c = found (λ v. v.colour) (sheet c.args.chart.now).vertices c.args.vertex (record { owner = 0; colour = 0; moves = [] }) _ c.in-Some.ensures
-
-pub returns-in-None : goal.returns-in-None
-returns-in-None c = missed (λ v. v.colour) (sheet c.args.chart.now).vertices c.args.vertex (record { owner = 0; colour = 0; moves = [] }) c.in-None.ensures
+pub returns : goal.returns
+returns c = asked (sheet c.args.chart.now) c.args.vertex (λ v. v.colour) _ c.colour.result c.unwrap_or.ensures c.colour.ensures

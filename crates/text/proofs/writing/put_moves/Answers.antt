@@ -12,17 +12,13 @@ pub put_moves_of-at-requires : goal.put_moves_of-at-requires
 put_moves_of-at-requires c =
     let d = c.args.chart.now in
     let room = d.room in
-    let n = size_is d in
-    record {
-      here = omega (arith, c.loop-vertex-test.true, c.size-vertex-end.ensures);
-      low = omega (arith, c.loop-vertex.invariant.0, c.loop-vertex-test.true, c.size-vertex-end.ensures, c.requires);
-    }
+    omega (arith, c.loop-vertex.invariant.0, c.loop-vertex-test.true, c.size-vertex-end.ensures, size_is d)
 
 pub loop-vertex-preserved : goal.loop-vertex-preserved
 loop-vertex-preserved c =
     let d = c.args.chart.now in (
       omega (arith, c.loop-vertex.invariant.0, c.put_moves_of-at.ensures.few),
-      put_vertex_moves (sheet d).vertices c.loop-vertex.vertex (record { owner = 0; colour = 0; moves = [] }) c.args.out.now c.loop-vertex.out c.put_moves_of-at.new.out c.args.start c.loop-vertex.at c.put_moves_of-at.result
+      put_vertex_moves (sheet d).vertices c.loop-vertex.vertex (record { owner = 0; colour = 0; moves = [] }) _ _ _ _ _ _
           (omega (arith, c.loop-vertex-test.true, c.size-vertex-end.ensures))
           c.loop-vertex.invariant.1 c.put_moves_of-at.ensures.adds,
     )
@@ -30,6 +26,6 @@ loop-vertex-preserved c =
 pub returns : goal.returns
 returns c =
     let d = c.args.chart.now in
-    adds_same _ (flat_map spelt (move_lines 0 (sheet d).vertices)) c.args.out.now c.loop-vertex.out c.args.start c.loop-vertex.at
+    adds_same _ (flat_map spelt (move_lines 0 (sheet d).vertices)) _ _ _ _
     (ap (λ vs. flat_map spelt (move_lines 0 vs)) (take_all c.loop-vertex.vertex (sheet d).vertices (omega (arith, c.loop-vertex-test.false, c.size-vertex-end.ensures))))
     c.loop-vertex.invariant.1

@@ -7,5 +7,5 @@ use Rattle.text.proofs.writing.put_moves.Given as goal
 
 abbrev pub invariant-loop-vertex : goal.invariant-loop-vertex
 invariant-loop-vertex l =
-    (l.at ≤ l.start + 40960 * l.vertex) ×
+    (l.at ≤ l.start + 102400 * l.vertex) ×
     Adds (flat_map spelt (move_lines 0 (take l.vertex (sheet l.chart).vertices))) l.initial.out l.start l.out l.at

@@ -7,5 +7,5 @@ use Rattle.text.proofs.writing.put_moves_of.Given as goal
 
 abbrev pub invariant-loop-number : goal.invariant-loop-number
 invariant-loop-number l =
-    (l.at ≤ l.start + 40 * l.number) ×
+    (l.at ≤ l.start + 100 * l.number) ×
     Adds (flat_map (λ m. spelt (move_line l.vertex m)) (take l.number (vertex_or_none (sheet l.chart) l.vertex).moves)) l.initial.out l.start l.out l.at

@@ -7,5 +7,5 @@ use Rattle.text.proofs.writing.put_vertices.Given as goal
 
 abbrev pub invariant-loop-vertex : goal.invariant-loop-vertex
 invariant-loop-vertex l =
-    (l.at ≤ l.start + 40 * l.vertex) ×
+    (l.at ≤ l.start + 100 * l.vertex) ×
     Adds (flat_map (λ v. spelt (vertex_line v)) (take l.vertex (sheet l.chart).vertices)) l.initial.out l.start l.out l.at

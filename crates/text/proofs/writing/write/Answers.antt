@@ -25,6 +25,6 @@ returns c =
     let room : length (text_of a) ≤ length out = omega (arith, long, c.if-length-out.false) in
     let fits : leb (length (text_of a)) (length out) ≡ true = le-leb (length (text_of a)) (length out) room in
     record {
-      answer = ap done long ∙ ap (λ b. cond b (done (length (text_of a))) (refused 24 0)) (sym fits);
+      answer = ap done (held (text_of a) out c.spell.new.out c.spell.result c.spell.ensures).at_end ∙ ap (λ b. cond b (done (length (text_of a))) (refused 24 0)) (sym fits);
       after = (held (text_of a) out c.spell.new.out c.spell.result c.spell.ensures).front room ∙ ap (λ b. cond b (text_of a ++ drop (length (text_of a)) out) out) (sym fits);
     }
