@@ -4,16 +4,13 @@ use anyhow::Context;
 use crew::Crew;
 use drawn::Drawn;
 use helm::{begin, finish};
-use intake::fill;
+use intake::{MOST_BYTES, fill};
 use orders::Orders;
 use std::env;
 use text::read;
 
 mod crew;
 mod orders;
-
-/// No chart text is longer than 20,888 bytes; a longer input shows its first fault within this many.
-const MOST_BYTES: usize = 32768;
 
 /// Makes the voyage that a file of orders tells, on the chart that standard
 /// input has, and prints each turn and the record of the voyage.
@@ -23,9 +20,9 @@ fn main(rt: HostRuntime) -> anyhow::Result<()> {
 
 fn run(rt: &HostRuntime) -> anyhow::Result<()> {
     let mut buffer = [0u8; MOST_BYTES];
-    let filled = fill(rt, &mut buffer)?;
+    let text = fill(rt, &mut buffer)?;
     let mut chart = Drawn::new();
-    match read(&mut chart, &buffer[0..filled]) {
+    match read(&mut chart, text) {
         Ok(()) => sail(rt, &chart),
         Err(misread) => {
             println!(rt; "{misread}")?;
