@@ -6,7 +6,7 @@ use Rattle.std.proofs.lemmas.Option.{unwrap_or-slice_get}
 use Rattle.chart.specs.Arena.{Arena, Vertex, Ranged, RangedVertex, size, and_then, vertex_at}
 use Rattle.text.specs.Writing.{vertex_or_none}
 
-pub value_found : {A B : Type 0} (f : A → B) (xs : List A) (i : ℕ) (d : A) → unwrap_or (option_map f (slice_get xs i)) (f d) ≡ f (get_or xs i d)
+value_found : {A B : Type 0} (f : A → B) (xs : List A) (i : ℕ) (d : A) → unwrap_or (option_map f (slice_get xs i)) (f d) ≡ f (get_or xs i d)
 value_found f [] i d = refl
 value_found f (x ∷ xs) zero d = refl
 value_found f (x ∷ xs) (suc i) d = value_found f xs i d

@@ -10,7 +10,7 @@ use Rattle.text.proofs.Numerals.{one_number}
 pub fielded_number : (bytes : List ℕ) (end n : ℕ) (rest : List ℕ) → is_ascii_digit end ≡ false → Fielded bytes end n rest → Numbered bytes n (end ∷ rest)
 fielded_number bytes end n rest e f = record { small = f.small; ends = e; is = f.is }
 
-pub one_field : (bytes : List ℕ) (end n m : ℕ) (rest other : List ℕ) → is_ascii_digit end ≡ false → Fielded bytes end n rest → Fielded bytes end m other → (n ≡ m) × (rest ≡ other)
+one_field : (bytes : List ℕ) (end n m : ℕ) (rest other : List ℕ) → is_ascii_digit end ≡ false → Fielded bytes end n rest → Fielded bytes end m other → (n ≡ m) × (rest ≡ other)
 one_field bytes end n m rest other e a b =
     let p = one_number bytes n m (end ∷ rest) (end ∷ other) (fielded_number bytes end n rest e a) (fielded_number bytes end m other e b) in
     (p.0, append_cancel_left (end ∷ []) rest other p.1)
@@ -19,13 +19,13 @@ one_field bytes end n m rest other e a b =
 pub behind : (word bytes rest other : List ℕ) → bytes ≡ word ++ rest → bytes ≡ word ++ other → rest ≡ other
 behind word bytes rest other a b = append_cancel_left word rest other (sym a ∙ b)
 
-pub same_end : (ns ms : List ℕ) → length ns ≡ length ms → end_of ns ≡ end_of ms
+same_end : (ns ms : List ℕ) → length ns ≡ length ms → end_of ns ≡ end_of ms
 same_end [] [] e = refl
 same_end [] (m ∷ ms) e = absurd (omega arith)
 same_end (n ∷ ns) [] e = absurd (omega arith)
 same_end (n ∷ ns) (m ∷ ms) e = refl
 
-pub end_plain : (ns : List ℕ) → is_ascii_digit (end_of ns) ≡ false
+end_plain : (ns : List ℕ) → is_ascii_digit (end_of ns) ≡ false
 end_plain [] = refl
 end_plain (n ∷ ns) = refl
 
@@ -36,7 +36,7 @@ spells_word word bytes rest ns after e s = record { small = s.small; is = behind
 pub word_spells : (word bytes rest ns after : List ℕ) → bytes ≡ word ++ rest → Spells [] rest ns after → Spells word bytes ns after
 word_spells word bytes rest ns after e s = record { small = s.small; is = e ∙ ap (λ t. word ++ t) s.is }
 
-pub spells_first : (bytes : List ℕ) (n : ℕ) (ns after : List ℕ) → Spells [] bytes (n ∷ ns) after → Fielded bytes (end_of ns) n (numbers_spelt ns ++ after)
+spells_first : (bytes : List ℕ) (n : ℕ) (ns after : List ℕ) → Spells [] bytes (n ∷ ns) after → Fielded bytes (end_of ns) n (numbers_spelt ns ++ after)
 spells_first bytes n ns after s = record { small = s.small.0; is = s.is ∙ append_assoc (decimal n) (end_of ns ∷ numbers_spelt ns) after }
 
 pub spells_more : (bytes : List ℕ) (end n : ℕ) (rest ns after : List ℕ) → end ≡ end_of ns → Fielded bytes end n rest → Spells [] rest ns after → Spells [] bytes (n ∷ ns) after
@@ -45,7 +45,7 @@ spells_more bytes end n rest ns after e f s = record {
   is = f.is ∙ ap₂ (λ b t. decimal n ++ (b ∷ t)) e s.is ∙ sym (append_assoc (decimal n) (end_of ns ∷ numbers_spelt ns) after);
 }
 
-pub spells_others : (bytes : List ℕ) (end n m : ℕ) (rest ms after : List ℕ) → is_ascii_digit end ≡ false → end ≡ end_of ms → Fielded bytes end n rest → Spells [] bytes (m ∷ ms) after → (n ≡ m) × Spells [] rest ms after
+spells_others : (bytes : List ℕ) (end n m : ℕ) (rest ms after : List ℕ) → is_ascii_digit end ≡ false → end ≡ end_of ms → Fielded bytes end n rest → Spells [] bytes (m ∷ ms) after → (n ≡ m) × Spells [] rest ms after
 spells_others bytes end n m rest ms after d e f s =
     let p = one_field bytes end n m rest (numbers_spelt ms ++ after) d f (rw e (spells_first bytes m ms after s)) in
     (p.0, record { small = s.small.1; is = p.1 })
@@ -96,7 +96,7 @@ numbers_of (vertex owner colour) = owner ∷ colour ∷ []
 numbers_of (moves n) = n ∷ []
 numbers_of (move from to cost) = from ∷ to ∷ cost ∷ []
 
-pub spelling : (line : Line) → spelt line ≡ word_of line ++ numbers_spelt (numbers_of line)
+spelling : (line : Line) → spelt line ≡ word_of line ++ numbers_spelt (numbers_of line)
 spelling (vertices n) = refl
 spelling (vertex owner colour) = refl
 spelling (moves n) = refl

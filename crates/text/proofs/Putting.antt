@@ -48,7 +48,7 @@ module _ (out bytes : List ℕ) (at : ℕ) where
       }
 
 -- a number by its last digit
-pub last_digit : (n : ℕ) → n < 10 → (48 + n % 10) ∷ [] ≡ decimal n
+last_digit : (n : ℕ) → n < 10 → (48 + n % 10) ∷ [] ≡ decimal n
 last_digit n h = let same : n % 10 ≡ n = omega arith in ap (λ d. (48 + d) ∷ []) same ∙ sym (decimal_digit n h)
 
 -- one element more of a list that is put
@@ -59,7 +59,7 @@ put_more f xs i d entry between exit at to end h a b =
     (ap (λ t. flat_map f (take i xs) ++ t) (sym (append-nil (f (get_or xs i d)))) ∙ sym (flat_map-append f (take i xs) (get_or xs i d ∷ [])) ∙ ap (flat_map f) (sym (take_more xs i d h)))
     (adds_more (flat_map f (take i xs)) (f (get_or xs i d)) entry between exit at to end a b)
 
-pub move_lines_push : (k : ℕ) (vs : List Vertex) (v : Vertex) → move_lines k (vs ++ v ∷ []) ≡ move_lines k vs ++ map (move_line (k + length vs)) v.moves
+move_lines_push : (k : ℕ) (vs : List Vertex) (v : Vertex) → move_lines k (vs ++ v ∷ []) ≡ move_lines k vs ++ map (move_line (k + length vs)) v.moves
 move_lines_push k [] v = append-nil (map (move_line k) v.moves) ∙ ap (λ n. map (move_line n) v.moves) (sym (add-zero k))
 move_lines_push k (x ∷ vs) v =
     let next : suc k + length vs ≡ k + suc (length vs) = omega arith in
@@ -90,7 +90,7 @@ put_numbers ns i e entry one two exit at to last end h is a b d =
     rw (drop_first ns i h) (adds_more (decimal (get_or ns i 0)) (end_of (drop (i + 1) ns) ∷ numbers_spelt (drop (i + 1) ns)) entry one exit at to end a
     (adds_more (end_of (drop (i + 1) ns) ∷ []) (numbers_spelt (drop (i + 1) ns)) one two exit to last end (rw is at b) d))
 
-pub joined_map : {X Y : Type 0} (f : Y → List ℕ) (g : X → Y) (xs : List X) → flat_map (λ x. f (g x)) xs ≡ flat_map f (map g xs)
+joined_map : {X Y : Type 0} (f : Y → List ℕ) (g : X → Y) (xs : List X) → flat_map (λ x. f (g x)) xs ≡ flat_map f (map g xs)
 joined_map f g [] = refl
 joined_map f g (x ∷ xs) = ap (λ t. f (g x) ++ t) (joined_map f g xs)
 

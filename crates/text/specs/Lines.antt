@@ -17,12 +17,13 @@ spelt (vertex owner colour) = codes "vertex=" ++ (decimal owner ++ (44 ∷ (deci
 spelt (moves n) = codes "moves=" ++ (decimal n ++ (10 ∷ []))
 spelt (move from to cost) = codes "move=" ++ (decimal from ++ (44 ∷ (decimal to ++ (44 ∷ (decimal cost ++ (10 ∷ []))))))
 
+-- The byte behind a number that these follow on its line.
 abbrev pub end_of : List ℕ → ℕ
 end_of [] = 10
 end_of (n ∷ ns) = 44
 
--- The numbers of a line as it spells them behind its word: a comma stands behind each but the last, and
--- the line end behind that.
+-- Numbers as a line spells them behind its word: a comma stands behind each but the last, and the
+-- line end behind that one.
 abbrev pub numbers_spelt : List ℕ → List ℕ
 numbers_spelt [] = []
 numbers_spelt (n ∷ ns) = decimal n ++ (end_of ns ∷ numbers_spelt ns)
