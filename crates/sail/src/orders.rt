@@ -1,3 +1,6 @@
+ghost use Rattle.std.specs.Prelude.{Some};
+ghost use Rattle.sail.specs.Orders.{order_text};
+
 use anyhow::anyhow;
 use std::alloc::Global;
 use std::fs::File;
@@ -32,6 +35,8 @@ impl FromStr for Order {
 
 /// As the order is written.
 impl fmt::Display for Order {
+    ghost output = { λ order. Some (order_text order) };
+
     fn fmt<W: fmt::Write>(&self, f: &mut fmt::Formatter<W>) -> fmt::Result {
         match self {
             Order::Steer => write!(f, "steer"),
