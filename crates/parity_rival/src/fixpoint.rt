@@ -7,87 +7,91 @@ use parity_games::put;
 pub fn get(table: &[u32], place: usize) -> u32
     ensures { result ≡ slice_index table.now place }
 {
-    if place < table.len() { table[place] } else { 0 }
+    table.get(place).copied().unwrap_or(0)
 }
 
-/// Who wins the position as it is guessed so far: the player of its colour, or the other where the
+/// Guesses at who wins each position of a game: the player of its colour, or the other where the
 /// guess is turned.
-fn guess<G: ParityGame>(game: &G, turned: &[u32], position: usize) -> u32 {
-    (u32::from(game.colour(position)) % 2) ^ (get(turned, position) % 2)
+#[derive(Drop)]
+struct Guesses<'a, G: ParityGame> {
+    game: &'a G,
+    turned: &'a mut [u32],
 }
 
-/// Whether the guesses one step on speak for the player.
-fn speaks_for<G: ParityGame>(game: &G, turned: &[u32], player: u32, position: usize) -> bool {
-    let owner = u32::from(game.owner(position));
-    for number in 0..game.degree(position) {
-        if guess(game, turned, game.target(position, number)) == owner {
-            return owner == player;
-        }
+impl<'a, G: ParityGame> Guesses<'a, G> {
+    /// Who wins the position as it is guessed so far.
+    fn guess(&self, position: usize) -> u32 {
+        (u32::from(self.game.colour(position)) % 2) ^ (get(self.turned, position) % 2)
     }
-    owner != player
-}
 
-/// Turns the guesses at positions of the colour that one step on speaks against; says whether any
-/// turned.
-fn turn<G: ParityGame>(game: &G, turned: &mut [u32], colour: u8) -> bool {
-    let mut some = false;
-    for position in 0..game.size() {
-        if game.colour(position) == colour
-            && get(turned, position) == 0
-            && !speaks_for(game, turned, u32::from(colour) % 2, position)
-        {
-            put(turned, position, 1);
-            some = true;
-        }
+    /// Whether the guesses one step on speak for the player: a guess for the owner, if it is the
+    /// player, and none, if it is the other.
+    fn speak_for(&self, player: u32, position: usize) -> bool {
+        let owner = u32::from(self.game.owner(position));
+        let wins = (0..self.game.degree(position)).any(|number| self.guess(
+            self.game.target(position, number),
+        ) == owner);
+        wins == (owner == player)
     }
-    some
-}
 
-/// Forgets what was turned at lower colours.
-fn forget<G: ParityGame>(game: &G, turned: &mut [u32], colour: u8) {
-    for position in 0..game.size() {
-        if game.colour(position) < colour {
-            put(turned, position, 0);
+    /// Turns the guesses at positions of the colour that one step on speaks against; says whether
+    /// any turned.
+    fn turn(&mut self, colour: u8) -> bool {
+        let mut some = false;
+        for position in 0..self.game.size() {
+            if self.game.colour(position) == colour
+                && get(self.turned, position) == 0
+                && !self.speak_for(u32::from(colour) % 2, position)
+            {
+                put(self.turned, position, 1);
+                some = true;
+            }
         }
+        some
     }
-}
 
-fn highest<G: ParityGame>(game: &G) -> u8 {
-    let mut top = 0;
-    for position in 0..game.size() {
-        if game.colour(position) > top {
-            top = game.colour(position);
+    /// Forgets what was turned at lower colours.
+    fn forget(&mut self, colour: u8) {
+        for (position, turned) in self.turned.iter_mut().enumerate() {
+            if self.game.colour(position) < colour {
+                *turned = 0;
+            }
         }
     }
-    top
+
+    /// From guesses to winners.
+    fn settle(&mut self) {
+        for position in 0..self.game.size() {
+            let winner = self.guess(position);
+            put(self.turned, position, winner);
+        }
+    }
 }
 
 /// A second way to solve a game, with no attractor and no recursion: guess that the player of each
 /// colour wins there, turn guesses that one step on speaks against, lowest colours first, and begin
 /// again below whenever one turns. Gives up after as many steps as it is allowed.
 pub fn rival<G: ParityGame>(game: &G, winners: &mut [u32], steps: usize) -> bool {
-    let top = highest(game);
-    for place in 0..winners.len() {
-        put(winners, place, 0);
-    }
+    let top = (0..game.size())
+        .map(|position| game.colour(position))
+        .max()
+        .unwrap_or(0);
+    winners.fill(0);
+    let mut guesses = Guesses {
+        game,
+        turned: winners,
+    };
     let mut colour = 0;
     for _ in 0..steps {
-        if turn(game, winners, colour) {
-            forget(game, winners, colour);
+        if guesses.turn(colour) {
+            guesses.forget(colour);
             colour = 0;
         } else if colour < top {
             colour += 1;
         } else {
-            settle(game, winners);
+            guesses.settle();
             return true;
         }
     }
     false
-}
-
-/// From guesses to winners.
-fn settle<G: ParityGame>(game: &G, winners: &mut [u32]) {
-    for position in 0..game.size() {
-        put(winners, position, guess(game, winners, position));
-    }
 }

@@ -2,98 +2,127 @@ use super::fixpoint::get;
 use parity::ParityGame;
 use parity_games::put;
 
-/// Whether a move may be played by the moves of the table: the one of the table where the player
-/// moves, else any.
-fn plays<G: ParityGame>(
-    game: &G,
-    player: u32,
-    moves: &[u32],
-    position: usize,
-    number: usize,
-) -> bool {
-    u32::from(game.owner(position)) != player || get(moves, position) as usize == number
-}
-
-/// Whether the player of the position's half has a move that exists, and no play leaves the half.
-fn stays<G: ParityGame>(game: &G, winners: &[u32], moves: &[u32], position: usize) -> bool {
-    let player = get(winners, position);
-    if player > 1
-        || (u32::from(game.owner(position)) == player
-            && get(moves, position) as usize >= game.degree(position))
-    {
-        return false;
-    }
-    for number in 0..game.degree(position) {
-        if plays(game, player, moves, position, number)
-            && get(winners, game.target(position, number)) != player
-        {
-            return false;
-        }
-    }
-    true
-}
-
-/// Tables for a search: where it has been, and what is to be looked at. Each search leaves its own
+/// A search among at most N positions: the sign of the last search that met each, and the queue of
+/// those that this one has met, of which some are still to be looked at. Each search has its own
 /// sign.
-fn returns<G: ParityGame>(
-    game: &G,
-    winners: &[u32],
-    moves: &[u32],
-    start: usize,
+#[derive(Drop)]
+pub struct Search<const N: usize> {
+    signs: [u32; N],
     sign: u32,
-    seen: &mut [u32],
-    queue: &mut [u32],
-) -> bool {
-    let player = get(winners, start);
-    let mut end = 1;
-    put(queue, 0, (start % 65536) as u32);
-    for place in 0..game.size() {
-        if place >= end {
-            return false;
+    queue: [usize; N],
+    met: usize,
+    looked_at: usize,
+}
+
+impl<const N: usize> Search<N> {
+    pub fn new() -> Search<N> {
+        Search {
+            signs: [0; N],
+            sign: 0,
+            queue: [0; N],
+            met: 0,
+            looked_at: 0,
         }
-        let position = get(queue, place) as usize;
-        for number in 0..game.degree(position) {
-            let next = game.target(position, number);
-            if plays(game, player, moves, position, number)
-                && game.colour(next) <= game.colour(start)
-            {
-                if next == start {
-                    return true;
-                }
-                if get(seen, next) != sign {
-                    put(seen, next, sign);
-                    put(queue, end, (next % 65536) as u32);
-                    end = end.wrapping_add(1);
+    }
+
+    /// Begins another search, at the position.
+    fn begin(&mut self, start: usize) {
+        self.sign = self.sign.wrapping_add(1);
+        self.met = 0;
+        self.looked_at = 0;
+        self.meet(start);
+    }
+
+    /// Queues the position, unless this search has met it.
+    fn meet(&mut self, position: usize) {
+        if get(&self.signs, position) != self.sign {
+            put(&mut self.signs, position, self.sign);
+            put(&mut self.queue, self.met, position);
+            self.met = self.met.wrapping_add(1);
+        }
+    }
+
+    /// The next position to be looked at.
+    fn next(&mut self) -> Option<usize> {
+        if self.looked_at >= self.met {
+            return None;
+        }
+        let position = self.queue.get(self.looked_at).copied()?;
+        self.looked_at = self.looked_at.wrapping_add(1);
+        Some(position)
+    }
+}
+
+/// What a solver says of a game: the winner of each position, and the move that its owner is to
+/// play if it is the winner.
+#[derive(Drop)]
+pub struct Verdict<'a, G: ParityGame> {
+    pub game: &'a G,
+    pub winners: &'a [u32],
+    pub moves: &'a [u32],
+}
+
+impl<'a, G: ParityGame> Verdict<'a, G> {
+    fn winner(&self, position: usize) -> u32 {
+        get(self.winners, position)
+    }
+
+    /// The number of the move that the verdict gives.
+    fn choice(&self, position: usize) -> usize {
+        get(self.moves, position) as usize
+    }
+
+    fn moves_at(&self, player: u32, position: usize) -> bool {
+        u32::from(self.game.owner(position)) == player
+    }
+
+    /// Whether the move may be played where the player goes by the verdict: its choice, or any move
+    /// of the other player.
+    fn plays(&self, player: u32, position: usize, number: usize) -> bool {
+        !self.moves_at(player, position) || self.choice(position) == number
+    }
+
+    /// Whether the player of the position's half has a move that exists, and no play leaves the
+    /// half.
+    fn stays(&self, position: usize) -> bool {
+        let player = self.winner(position);
+        let degree = self.game.degree(position);
+        player <= 1
+            && (!self.moves_at(player, position) || self.choice(position) < degree)
+            && (0..degree)
+                .filter(|number| self.plays(player, position, *number))
+                .all(|number| self.winner(self.game.target(position, number)) == player)
+    }
+
+    /// Whether a play comes back to the position with no higher colour between.
+    fn returns<const N: usize>(&self, start: usize, search: &mut Search<N>) -> bool {
+        let player = self.winner(start);
+        search.begin(start);
+        for _ in 0..self.game.size() {
+            let Some(position) = search.next() else {
+                return false;
+            };
+            for number in 0..self.game.degree(position) {
+                let end = self.game.target(position, number);
+                if self.plays(player, position, number)
+                    && self.game.colour(end) <= self.game.colour(start)
+                {
+                    if end == start {
+                        return true;
+                    }
+                    search.meet(end);
                 }
             }
         }
+        false
     }
-    false
-}
 
-/// Whether each player keeps its half by its moves: no play leaves it, and none comes back to a
-/// position of the other's colour without a higher one between.
-pub fn kept<G: ParityGame>(
-    game: &G,
-    winners: &[u32],
-    moves: &[u32],
-    seen: &mut [u32],
-    queue: &mut [u32],
-) -> bool {
-    for place in 0..seen.len() {
-        put(seen, place, 0);
+    /// Whether each player keeps its half by its moves: no play leaves it, and none comes back to a
+    /// position of the other's colour without a higher one between.
+    pub fn kept<const N: usize>(&self, search: &mut Search<N>) -> bool {
+        (0..self.game.size()).all(|position| {
+            let own = u32::from(self.game.colour(position)) % 2 == self.winner(position);
+            self.stays(position) && (own || !self.returns(position, search))
+        })
     }
-    let mut sign = 0u32;
-    for position in 0..game.size() {
-        if !stays(game, winners, moves, position) {
-            return false;
-        }
-        sign = sign.wrapping_add(1);
-        if u32::from(game.colour(position)) % 2 != get(winners, position)
-            && returns(game, winners, moves, position, sign, seen, queue)
-        {
-            return false;
-        }
-    }
-    true
 }
