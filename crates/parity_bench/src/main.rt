@@ -41,7 +41,7 @@ fn measure(rt: &HostRuntime, plan: &Plan, game: &Rows<'_>, timed: bool) -> io::R
 
 /// Measures one game, unless it has more positions than a board.
 fn bench(rt: &HostRuntime, plan: &Plan, timed: bool) -> io::Result<()> {
-    let mut board = Board::default();
+    let mut board = Board::EMPTY;
     match board.tables(plan.size) {
         Some(tables) => measure(rt, plan, &plan.lay(tables), timed),
         None => Ok(()),

@@ -1,6 +1,6 @@
 #![tactic(auto)]
 
-ghost use Rattle.std.specs.Prelude.{◌%◌, ◌*◌, ◌+◌, ◌<◌, ◌≤◌, ◌≡◌, ◌↔◌, IfSome, IsFalse, IsSome, replicate, set, take};
+ghost use Rattle.std.specs.Prelude.{◌%◌, ◌*◌, ◌+◌, ◌<◌, ◌≤◌, ◌≡◌, ◌↔◌, IfSome, IsFalse, IsSome, set, take};
 
 use parity::rows::Rows;
 
@@ -82,21 +82,15 @@ pub struct Board {
     pub targets: [u32; MOVES * MOST],
 }
 
-impl Default for Board {
-    ghost is_default = { λ b. (b.owners ≡ replicate 4096 0) × (b.colours ≡ replicate 4096 0)
-        × (b.starts ≡ replicate 4097 0) × (b.targets ≡ replicate 16384 0) };
-
-    fn default() -> Board {
-        Board {
-            owners: [0; MOST],
-            colours: [0; MOST],
-            starts: [0; MOST + 1],
-            targets: [0; MOVES * MOST],
-        }
-    }
-}
-
 impl Board {
+    /// A board with nothing laid on it.
+    pub const EMPTY: Board = Board {
+        owners: [0; MOST],
+        colours: [0; MOST],
+        starts: [0; MOST + 1],
+        targets: [0; MOVES * MOST],
+    };
+
     /// The tables of a game of the size, unless it has more positions than the board.
     pub fn tables(&mut self, size: u64) -> Option<Tables<'_>>
         ensures room { IsSome result ↔ (size ≤ 4096) }

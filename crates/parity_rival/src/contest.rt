@@ -38,7 +38,7 @@ fn agrees<G: ParityGame, const N: usize>(game: &G, steps: usize) -> bool
 
 /// The same of a game of a family, of at most 4,096 positions.
 pub fn family_agrees(plan: &Plan, steps: usize) -> bool {
-    let mut board = Board::default();
+    let mut board = Board::EMPTY;
     match board.tables(plan.size) {
         Some(tables) => agrees::<_, MOST>(&plan.lay(tables), steps),
         None => false,

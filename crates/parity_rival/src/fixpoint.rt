@@ -52,7 +52,8 @@ impl<'a, G: ParityGame> Guesses<'a, G> {
 
     /// Forgets what was turned at lower colours.
     fn forget(&mut self, colour: u8) {
-        for (position, turned) in self.turned.iter_mut().enumerate() {
+        let size = self.game.size();
+        for (position, turned) in self.turned.iter_mut().take(size).enumerate() {
             if self.game.colour(position) < colour {
                 *turned = 0;
             }

@@ -32,16 +32,18 @@ fn few(size: u64, colours: u8, seeds: u64) -> usize {
 fn families(size: u64, colours: u8, seeds: u64, steps: usize) -> usize {
     FAMILIES
         .into_iter()
-        .flat_map(|family| {
-            (0..seeds).map(move |seed| Plan {
-                colours,
-                seed,
-                shuffled: seed % 2 == 1,
-                ..Plan::new(family, size)
-            })
+        .map(|family| {
+            (0..seeds)
+                .map(|seed| Plan {
+                    colours,
+                    seed,
+                    shuffled: seed % 2 == 1,
+                    ..Plan::new(family, size)
+                })
+                .filter(|plan| family_agrees(plan, steps))
+                .count()
         })
-        .filter(|plan| family_agrees(plan, steps))
-        .count()
+        .fold(0, usize::saturating_add)
 }
 
 /// How many nests agree, of lengths up to the size.
