@@ -12,11 +12,11 @@ pub struct Tables {
 }
 
 /// Solves a game of at most four positions.
-pub fn solved<'a>(
-    owners: &'a [u8],
-    colours: &'a [u8],
-    starts: &'a [u32],
-    targets: &'a [u32],
+pub fn solved(
+    owners: &[u8],
+    colours: &[u8],
+    starts: &[u32],
+    targets: &[u32],
 ) -> Result<Tables, Refusal> {
     let game = Rows {
         owners,
@@ -24,11 +24,13 @@ pub fn solved<'a>(
         starts,
         targets,
     };
-    let mut winners = [7; 4];
-    let mut moves = [7; 4];
+    let mut tables = Tables {
+        winners: [7; 4],
+        moves: [7; 4],
+    };
     let mut memory = [7; 32];
-    solve(&game, &mut winners, &mut moves, &mut memory)?;
-    Ok(Tables { winners, moves })
+    solve(&game, &mut tables.winners, &mut tables.moves, &mut memory)?;
+    Ok(tables)
 }
 
 /// Solves the game of one position and a move to itself, in tables of the given lengths.
@@ -42,15 +44,14 @@ pub fn refusal(winners: usize, moves: usize, memory: usize) -> Result<(), Refusa
     let mut first = [7; 4];
     let mut second = [7; 4];
     let mut third = [7; 32];
-    if winners > 4 || moves > 4 || memory > 32 {
-        return Ok(());
+    match (
+        first.get_mut(..winners),
+        second.get_mut(..moves),
+        third.get_mut(..memory),
+    ) {
+        (Some(winners), Some(moves), Some(memory)) => solve(&game, winners, moves, memory),
+        _ => Ok(()),
     }
-    solve(
-        &game,
-        &mut first[0..winners],
-        &mut second[0..moves],
-        &mut third[0..memory],
-    )
 }
 
 #[cfg(test)]
