@@ -100,9 +100,6 @@ impl Board {
         ensures targets { IfSome result (λ t. t.targets.now ≡ take (4 * size) self.old.targets) }
     {
         let size = size as usize;
-        if size > MOST {
-            return None;
-        }
         let Board {
             owners,
             colours,
@@ -110,10 +107,10 @@ impl Board {
             targets,
         } = self;
         Some(Tables {
-            owners: &mut owners[..size],
-            colours: &mut colours[..size],
-            starts: &mut starts[..=size],
-            targets: &mut targets[..MOVES * size],
+            owners: owners.get_mut(..size)?,
+            colours: colours.get_mut(..size)?,
+            starts: starts.get_mut(..=size)?,
+            targets: targets.get_mut(..MOVES * size)?,
         })
     }
 }

@@ -7,9 +7,20 @@ use parity::rows::Rows;
 use parity::solver::solve;
 use parity_games::{Board, MOST, Plan};
 
+/// Whether the rival, in so many steps, finds the same winners of a game of at most N positions.
+fn confirms<G: ParityGame, const N: usize>(game: &G, winners: &[u32; N], steps: usize) -> bool {
+    let mut second = [7; N];
+    rival(game, &mut second, steps)
+        && winners
+            .iter()
+            .zip(&second)
+            .take(game.size())
+            .all(|(first, second)| first == second)
+}
+
 /// Whether a game of at most N positions is solved, each player keeps its half by the moves given,
-/// and the rival, where it is allowed any steps, finds the same winners.
-fn agrees<G: ParityGame, const N: usize>(game: &G, steps: usize) -> bool
+/// and the rival, where it is given steps, finds the same winners.
+fn agrees<G: ParityGame, const N: usize>(game: &G, steps: Option<usize>) -> bool
     requires { N ≤ 65536 }
 {
     let mut winners = [7; N];
@@ -23,21 +34,12 @@ fn agrees<G: ParityGame, const N: usize>(game: &G, steps: usize) -> bool
         winners: &winners,
         moves: &moves,
     };
-    if !verdict.kept(&mut Search::<N>::new()) {
-        return false;
-    }
-    let mut second = [7; N];
-    steps == 0
-        || (rival(game, &mut second, steps)
-            && winners
-                .iter()
-                .zip(&second)
-                .take(game.size())
-                .all(|(first, second)| first == second))
+    verdict.kept(&mut Search::<N>::new())
+        && steps.is_none_or(|steps| confirms(game, &winners, steps))
 }
 
 /// The same of a game of a family, of at most 4,096 positions.
-pub fn family_agrees(plan: &Plan, steps: usize) -> bool {
+pub fn family_agrees(plan: &Plan, steps: Option<usize>) -> bool {
     let mut board = Board::EMPTY;
     match board.tables(plan.size) {
         Some(tables) => agrees::<_, MOST>(&plan.lay(tables), steps),
@@ -65,24 +67,15 @@ struct Three {
 }
 
 impl Three {
-    /// The game that has the number.
+    /// The game that has the number: each position has one of 70 kinds, by its owner, its colour and
+    /// the subset of positions that its moves lead to.
     fn new(code: u64) -> Three {
-        let mut game = Three {
-            owners: [0; 3],
-            colours: [0; 3],
-            targets: [[0; 3]; 3],
-        };
-        let mut rest = code;
-        for position in 0..3 {
-            game.owners[position] = (rest % 2) as u8;
-            rest /= 2;
-            game.colours[position] = (rest % 5) as u8;
-            rest /= 5;
-            let subset = rest % 7 + 1;
-            rest /= 7;
-            game.targets[position] = [member(subset, 0), member(subset, 1), member(subset, 2)];
+        let kinds = [code % 70, code / 70 % 70, code / 4900 % 70];
+        Three {
+            owners: kinds.map(|kind| (kind % 2) as u8),
+            colours: kinds.map(|kind| (kind / 2 % 5) as u8),
+            targets: kinds.map(|kind| [0, 1, 2].map(|from| member(kind / 10 + 1, from))),
         }
-        game
     }
 
     fn rows(&self) -> Rows<'_> {
@@ -97,5 +90,5 @@ impl Three {
 
 /// Whether the two solvers agree on the game of three positions that has the number.
 pub fn three_agrees(code: u64) -> bool {
-    agrees::<_, 3>(&Three::new(code).rows(), 1000)
+    agrees::<_, 3>(&Three::new(code).rows(), Some(1000))
 }

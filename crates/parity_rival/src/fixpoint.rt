@@ -28,9 +28,9 @@ impl<'a, G: ParityGame> Guesses<'a, G> {
     /// player, and none, if it is the other.
     fn speak_for(&self, player: u32, position: usize) -> bool {
         let owner = u32::from(self.game.owner(position));
-        let wins = (0..self.game.degree(position)).any(|number| self.guess(
-            self.game.target(position, number),
-        ) == owner);
+        let wins = (0..self.game.degree(position))
+            .map(|number| self.game.target(position, number))
+            .any(|end| self.guess(end) == owner);
         wins == (owner == player)
     }
 

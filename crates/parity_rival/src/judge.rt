@@ -44,10 +44,7 @@ impl<const N: usize> Search<N> {
 
     /// The next position to be looked at.
     fn next(&mut self) -> Option<usize> {
-        if self.looked_at >= self.met {
-            return None;
-        }
-        let position = self.queue.get(self.looked_at).copied()?;
+        let position = self.queue.get(..self.met)?.get(self.looked_at).copied()?;
         self.looked_at = self.looked_at.wrapping_add(1);
         Some(position)
     }
@@ -72,14 +69,14 @@ impl<'a, G: ParityGame> Verdict<'a, G> {
         get(self.moves, position) as usize
     }
 
-    fn moves_at(&self, player: u32, position: usize) -> bool {
+    fn owns(&self, player: u32, position: usize) -> bool {
         u32::from(self.game.owner(position)) == player
     }
 
     /// Whether the move may be played where the player goes by the verdict: its choice, or any move
     /// of the other player.
     fn plays(&self, player: u32, position: usize, number: usize) -> bool {
-        !self.moves_at(player, position) || self.choice(position) == number
+        !self.owns(player, position) || self.choice(position) == number
     }
 
     /// Whether the player of the position's half has a move that exists, and no play leaves the
@@ -88,7 +85,7 @@ impl<'a, G: ParityGame> Verdict<'a, G> {
         let player = self.winner(position);
         let degree = self.game.degree(position);
         player <= 1
-            && (!self.moves_at(player, position) || self.choice(position) < degree)
+            && (!self.owns(player, position) || self.choice(position) < degree)
             && (0..degree)
                 .filter(|number| self.plays(player, position, *number))
                 .all(|number| self.winner(self.game.target(position, number)) == player)
@@ -102,16 +99,15 @@ impl<'a, G: ParityGame> Verdict<'a, G> {
             let Some(position) = search.next() else {
                 return false;
             };
-            for number in 0..self.game.degree(position) {
-                let end = self.game.target(position, number);
-                if self.plays(player, position, number)
-                    && self.game.colour(end) <= self.game.colour(start)
-                {
-                    if end == start {
-                        return true;
-                    }
-                    search.meet(end);
+            let ends = (0..self.game.degree(position))
+                .filter(|number| self.plays(player, position, *number))
+                .map(|number| self.game.target(position, number))
+                .filter(|end| self.game.colour(*end) <= self.game.colour(start));
+            for end in ends {
+                if end == start {
+                    return true;
                 }
+                search.meet(end);
             }
         }
         false

@@ -8,8 +8,8 @@ mod contest;
 mod fixpoint;
 mod judge;
 
-/// The steps that the rival is allowed where it is to come to an end.
-const STEPS: usize = 1_000_000;
+/// The steps that the rival is given, enough for it to come to an end.
+const STEPS: Option<usize> = Some(1_000_000);
 
 /// How many of the games of three positions agree.
 fn threes() -> usize {
@@ -29,7 +29,7 @@ fn few(size: u64, colours: u8, seeds: u64) -> usize {
 }
 
 /// How many games of all families agree, plain and shuffled.
-fn families(size: u64, colours: u8, seeds: u64, steps: usize) -> usize {
+fn families(size: u64, colours: u8, seeds: u64, steps: Option<usize>) -> usize {
     FAMILIES
         .into_iter()
         .map(|family| {
@@ -68,6 +68,6 @@ fn main(rt: HostRuntime) -> io::Result<()> {
     println!(rt; "nests of 0 to 63 positions: {nested} agree")?;
     let many = families(512, 4, 4, STEPS);
     println!(rt; "7 families of 512 positions and 4 colours, 4 each: {many} agree")?;
-    let large = families(4096, 11, 2, 0);
+    let large = families(4096, 11, 2, None);
     println!(rt; "7 families of 4096 positions, 2 each: both players keep their halves in {large}")
 }
