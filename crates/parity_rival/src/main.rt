@@ -16,42 +16,49 @@ fn threes() -> usize {
     (0..THREES).filter(|code| three_agrees(*code)).count()
 }
 
-/// How many random games of a few positions and the number of colours agree, one for each seed.
-fn few(size: u64, colours: u8, seeds: u64) -> usize {
-    (0..seeds)
-        .map(|seed| Plan {
-            colours,
-            seed,
-            ..Plan::new(Family::Random, size)
-        })
-        .filter(|plan| family_agrees(plan, STEPS))
+/// How many games agree of those that the plan gives for each number below the bound.
+fn agreeing<F: Fn(u64) -> Plan>(numbers: u64, steps: Option<usize>, plan: F) -> usize
+    requires { F.IsAlwaysCallable plan }
+{
+    (0..numbers)
+        .filter(|number| family_agrees(&plan(*number), steps))
         .count()
 }
 
-/// How many games of all families agree, plain and shuffled.
+/// How many random games of a few positions and the number of colours agree, one for each seed.
+fn few(size: u64, colours: u8, seeds: u64) -> usize {
+    agreeing(
+        seeds,
+        STEPS,
+        |seed| Plan {
+            colours,
+            seed,
+            ..Plan::new(Family::Random, size)
+        },
+    )
+}
+
+/// How many games of all families agree, plain and shuffled, one for each seed.
 fn families(size: u64, colours: u8, seeds: u64, steps: Option<usize>) -> usize {
-    FAMILIES
-        .into_iter()
-        .map(|family| {
-            (0..seeds)
-                .map(|seed| Plan {
-                    colours,
-                    seed,
-                    shuffled: seed % 2 == 1,
-                    ..Plan::new(family, size)
-                })
-                .filter(|plan| family_agrees(plan, steps))
-                .count()
-        })
-        .fold(0, usize::saturating_add)
+    let mut agreed = 0usize;
+    for family in FAMILIES {
+        agreed = agreed.saturating_add(agreeing(
+            seeds,
+            steps,
+            |seed| Plan {
+                colours,
+                seed,
+                shuffled: seed % 2 == 1,
+                ..Plan::new(family, size)
+            },
+        ));
+    }
+    agreed
 }
 
 /// How many nests agree, of lengths up to the size.
 fn nests(size: u64) -> usize {
-    (0..size)
-        .map(|length| Plan::new(Family::Nest, length))
-        .filter(|plan| family_agrees(plan, STEPS))
-        .count()
+    agreeing(size, STEPS, |length| Plan::new(Family::Nest, length))
 }
 
 fn main(rt: HostRuntime) -> io::Result<()> {
