@@ -27,33 +27,28 @@ fn agreeing<F: Fn(u64) -> Plan>(numbers: u64, steps: Option<usize>, plan: F) -> 
 
 /// How many random games of a few positions and the number of colours agree, one for each seed.
 fn few(size: u64, colours: u8, seeds: u64) -> usize {
-    agreeing(
-        seeds,
-        STEPS,
-        |seed| Plan {
-            colours,
-            seed,
-            ..Plan::new(Family::Random, size)
-        },
-    )
+    let plan = |seed: u64| Plan {
+        colours,
+        seed,
+        ..Plan::new(Family::Random, size)
+    };
+    agreeing(seeds, STEPS, plan)
 }
 
 /// How many games of all families agree, plain and shuffled, one for each seed.
 fn families(size: u64, colours: u8, seeds: u64, steps: Option<usize>) -> usize {
-    let mut agreed = 0usize;
-    for family in FAMILIES {
-        agreed = agreed.saturating_add(agreeing(
-            seeds,
-            steps,
-            |seed| Plan {
+    FAMILIES
+        .into_iter()
+        .map(|family| {
+            let plan = |seed: u64| Plan {
                 colours,
                 seed,
                 shuffled: seed % 2 == 1,
                 ..Plan::new(family, size)
-            },
-        ));
-    }
-    agreed
+            };
+            agreeing(seeds, steps, plan)
+        })
+        .fold(0, usize::saturating_add)
 }
 
 /// How many nests agree, of lengths up to the size.
