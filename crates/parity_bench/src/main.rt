@@ -2,7 +2,7 @@
 
 use parity::rows::Rows;
 use parity::solver::solve;
-use parity_games::{Board, FAMILIES, Family, MOST, Plan};
+use parity_games::{FAMILIES, Family, MOST, Plan, Room};
 use std::time::Instant;
 use std::{env, io};
 
@@ -39,10 +39,10 @@ fn measure(rt: &HostRuntime, plan: &Plan, game: &Rows<'_>, timed: bool) -> io::R
     println!(rt; "")
 }
 
-/// Measures one game, unless it has more positions than a board.
+/// Measures one game, unless it has more positions than there is room for.
 fn bench(rt: &HostRuntime, plan: &Plan, timed: bool) -> io::Result<()> {
-    let mut board = Board::EMPTY;
-    match board.tables(plan.size) {
+    let mut room = Room::EMPTY;
+    match room.tables(plan.size) {
         Some(tables) => measure(rt, plan, &plan.lay(tables), timed),
         None => Ok(()),
     }

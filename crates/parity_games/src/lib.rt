@@ -70,28 +70,28 @@ pub fn put<T: Copy>(table: &mut [T], place: usize, value: T)
     }
 }
 
-/// The most positions that a board has room for.
+/// The most positions that there is room for.
 pub const MOST: usize = 4096;
 
-/// Memory for the tables of any game of at most 4,096 positions.
+/// Room for the tables of any game of at most 4,096 positions.
 #[derive(Drop)]
-pub struct Board {
+pub struct Room {
     pub owners: [u8; MOST],
     pub colours: [u8; MOST],
     pub starts: [u32; MOST + 1],
     pub targets: [u32; MOVES * MOST],
 }
 
-impl Board {
-    /// A board with nothing laid on it.
-    pub const EMPTY: Board = Board {
+impl Room {
+    /// Room in which nothing is laid.
+    pub const EMPTY: Room = Room {
         owners: [0; MOST],
         colours: [0; MOST],
         starts: [0; MOST + 1],
         targets: [0; MOVES * MOST],
     };
 
-    /// The tables of a game of the size, unless it has more positions than the board.
+    /// The tables of a game of the size, unless it has more positions than there is room for.
     pub fn tables(&mut self, size: u64) -> Option<Tables<'_>>
         ensures room { IsSome result ↔ (size ≤ 4096) }
         ensures owners { IfSome result (λ t. t.owners.now ≡ take size self.old.owners) }
@@ -100,7 +100,7 @@ impl Board {
         ensures targets { IfSome result (λ t. t.targets.now ≡ take (4 * size) self.old.targets) }
     {
         let size = size as usize;
-        let Board {
+        let Room {
             owners,
             colours,
             starts,

@@ -5,7 +5,7 @@ use super::judge::{Search, Verdict};
 use parity::ParityGame;
 use parity::rows::Rows;
 use parity::solver::solve;
-use parity_games::{Board, MOST, Plan};
+use parity_games::{MOST, Plan, Room};
 
 /// Whether the rival, in so many steps, finds the same winners of a game of at most N positions.
 fn confirms<G: ParityGame, const N: usize>(game: &G, winners: &[u32; N], steps: usize) -> bool {
@@ -40,8 +40,8 @@ fn agrees<G: ParityGame, const N: usize>(game: &G, steps: Option<usize>) -> bool
 
 /// The same of a game of a family, of at most 4,096 positions.
 pub fn family_agrees(plan: &Plan, steps: Option<usize>) -> bool {
-    let mut board = Board::EMPTY;
-    match board.tables(plan.size) {
+    let mut room = Room::EMPTY;
+    match room.tables(plan.size) {
         Some(tables) => agrees::<_, MOST>(&plan.lay(tables), steps),
         None => false,
     }
