@@ -142,14 +142,14 @@ three_of (a ∷ ns) e = ap (λ t. a ∷ t) (two_of ns (omega arith))
 
 -- the four kinds of lines, from what their words and numbers spell
 module _ {bytes ns rest : List ℕ} where
-  pub vertices_line : Spells (codes "vertices=") bytes ns rest → length ns ≡ 1 → Lined bytes (vertices (get_or ns 0 0)) rest
-  vertices_line s long = spells_lined bytes (vertices (get_or ns 0 0)) ns rest (one_of ns long) s
+  pub vertices_lined : Spells (codes "vertices=") bytes ns rest → length ns ≡ 1 → Lined bytes (vertices (get_or ns 0 0)) rest
+  vertices_lined s long = spells_lined bytes (vertices (get_or ns 0 0)) ns rest (one_of ns long) s
 
-  pub vertex_line : Spells (codes "vertex=") bytes ns rest → length ns ≡ 2 → Lined bytes (vertex (get_or ns 0 0) (get_or ns 1 0)) rest
-  vertex_line s long = spells_lined bytes (vertex (get_or ns 0 0) (get_or ns 1 0)) ns rest (two_of ns long) s
+  pub vertex_lined : Spells (codes "vertex=") bytes ns rest → length ns ≡ 2 → Lined bytes (vertex (get_or ns 0 0) (get_or ns 1 0)) rest
+  vertex_lined s long = spells_lined bytes (vertex (get_or ns 0 0) (get_or ns 1 0)) ns rest (two_of ns long) s
 
-  pub moves_line : Spells (codes "moves=") bytes ns rest → length ns ≡ 1 → Lined bytes (moves (get_or ns 0 0)) rest
-  moves_line s long = spells_lined bytes (moves (get_or ns 0 0)) ns rest (one_of ns long) s
+  pub moves_lined : Spells (codes "moves=") bytes ns rest → length ns ≡ 1 → Lined bytes (moves (get_or ns 0 0)) rest
+  moves_lined s long = spells_lined bytes (moves (get_or ns 0 0)) ns rest (one_of ns long) s
 
-  pub move_line : Spells (codes "move=") bytes ns rest → length ns ≡ 3 → Lined bytes (move (get_or ns 0 0) (get_or ns 1 0) (get_or ns 2 0)) rest
-  move_line s long = spells_lined bytes (move (get_or ns 0 0) (get_or ns 1 0) (get_or ns 2 0)) ns rest (three_of ns long) s
+  pub move_lined : Spells (codes "move=") bytes ns rest → length ns ≡ 3 → Lined bytes (move (get_or ns 0 0) (get_or ns 1 0) (get_or ns 2 0)) rest
+  move_lined s long = spells_lined bytes (move (get_or ns 0 0) (get_or ns 1 0) (get_or ns 2 0)) ns rest (three_of ns long) s

@@ -20,11 +20,6 @@ pub record Fielded (bytes : List ℕ) (end n : ℕ) (rest : List ℕ) : Type 0 w
   pub small : n < 100000
   pub is : bytes ≡ decimal n ++ (end ∷ rest)
 
--- A word, a number of at most five digits and a line end.
-pub record Counted (word bytes : List ℕ) (n : ℕ) (rest : List ℕ) : Type 0 where
-  pub small : n < 100000
-  pub is : bytes ≡ word ++ (decimal n ++ (10 ∷ rest))
-
 -- A line with short numbers.
 pub record Lined (bytes : List ℕ) (line : Line) (rest : List ℕ) : Type 0 where
   pub short : Short line

@@ -9,15 +9,18 @@ const COMMA: u8 = b',';
 
 const LINE_END: u8 = b'\n';
 
-/// The numbers on a line, and what stands behind the line.
+/// A line taken apart: its numbers, and what stands behind it.
 #[derive(Drop)]
-pub(crate) struct Line<'a, const N: usize> {
+pub(crate) struct TakenLine<'a, const N: usize> {
     pub(crate) numbers: [u32; N],
     pub(crate) rest: &'a [u8],
 }
 
 /// The N numbers on a line that begins with the word, and what stands behind the line.
-pub(crate) fn numbers_line<'a, const N: usize>(bytes: &'a [u8], word: &[u8]) -> Option<Line<'a, N>>
+pub(crate) fn numbers_line<'a, const N: usize>(
+    bytes: &'a [u8],
+    word: &[u8],
+) -> Option<TakenLine<'a, N>>
     ensures { MatchOption result ((numbers rest : List ℕ) → length numbers ≡ N → Spells word.now bytes.now numbers rest → ⊥) (λ x. Spells word.now bytes.now x.numbers x.rest.now) }
 {
     let mut rest = after(bytes, word)?;
@@ -25,7 +28,7 @@ pub(crate) fn numbers_line<'a, const N: usize>(bytes: &'a [u8], word: &[u8]) -> 
     for (place, number) in numbers.iter_mut().enumerate() {
         (*number, rest) = field(rest, end_behind(N - 1 - place))?;
     }
-    Some(Line { numbers, rest })
+    Some(TakenLine { numbers, rest })
 }
 
 /// The byte behind a number that so many more follow on its line.

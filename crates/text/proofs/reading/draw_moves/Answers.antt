@@ -2,7 +2,7 @@ use Rattle.std.proofs.Common.{◌≡◌, zero, ◌+◌, ◌-◌, sym, ap, ◌∙
 use Rattle.std.proofs.lemmas.Result.{err_from_is_err_and}
 use Rattle.chart.specs.Refusals.{outcome, refused, number_of, place_of}
 use Rattle.drawn.specs.Meaning.{sheet}
-use Rattle.text.proofs.Fields.{move_line}
+use Rattle.text.proofs.Fields.{move_lined}
 use Rattle.text.proofs.Steps.{made_of, kept_ok, no_move, low_move, refused_move, next_move}
 use Rattle.text.proofs.reading.draw_moves.Goals as goal
 
@@ -14,7 +14,7 @@ pub returns-then-from-low : goal.returns-then-from-low
 returns-then-from-low c =
     let told = c.wrong_line-then-from-low.ensures in
     c.loop-done.invariant _ (low_move _ (sheet c.loop-done.chart) (c.args.line + c.loop-done.done) c.loop-done.rest.now (c.args.count - c.loop-done.done) c.loop-done.low _ _ _ c.in-Some.step.rest.now (omega arith) c.if-from-low.true
-    (move_line c.in-Some.ensures (search rules)) (ap₂ refused told.0 told.1))
+    (move_lined c.in-Some.ensures (search rules)) (ap₂ refused told.0 told.1))
 
 pub returns-in_err-map_err : goal.returns-in_err-map_err
 returns-in_err-map_err c =
@@ -23,7 +23,7 @@ returns-in_err-map_err c =
     let refusal : c.in_err-map_err.field-0.0.refusal ≡ q.0 = search rules in
     let line : c.in_err-map_err.field-0.0.line ≡ c.args.line + c.loop-done.done = search rules in
     rw (p.1, p.2) (c.loop-done.invariant _ (refused_move _ (sheet c.loop-done.chart) (c.args.line + c.loop-done.done) c.loop-done.rest.now (c.args.count - c.loop-done.done) c.loop-done.low _ _ _ c.in-Some.step.rest.now (number_of q.0) (place_of q.0) (omega arith) c.if-from-low.false
-    (move_line c.in-Some.ensures (search rules))
+    (move_lined c.in-Some.ensures (search rules))
     (sym c.join.ensures.answer ∙ ap outcome q.1) (ap₂ (λ r l. refused (number_of r) l) refusal line)))
 
 pub loop-done-preserved : goal.loop-done-preserved
@@ -33,7 +33,7 @@ loop-done-preserved c end r =
     let later : c.args.line + (c.loop-done.done + 1) ≡ c.args.line + c.loop-done.done + 1 = omega arith in
     let ok = kept_ok _ c.join.result c.map_err.result _ c.map_err.ensures.cases c.in_ok-map_err.was in
     c.loop-done.invariant end (next_move end a (c.args.line + c.loop-done.done) c.loop-done.rest.now (c.args.count - c.loop-done.done) c.loop-done.low _ _ _ c.in-Some.step.rest.now _ (omega arith) c.if-from-low.false
-    (move_line c.in-Some.ensures (search rules))
+    (move_lined c.in-Some.ensures (search rules))
     (sym c.join.ensures.answer ∙ ap outcome ok) (rw (c.join.ensures.after, fewer, later) at r))
 
 pub returns : goal.returns

@@ -2,7 +2,7 @@ use Rattle.std.proofs.Common.{◌≡◌, ◌+◌, ◌-◌, sym, ap, ◌∙◌, a
 use Rattle.std.proofs.lemmas.Result.{err_from_is_err_and}
 use Rattle.chart.specs.Refusals.{outcome, refused, number_of, place_of}
 use Rattle.drawn.specs.Meaning.{sheet}
-use Rattle.text.proofs.Fields.{vertex_line}
+use Rattle.text.proofs.Fields.{vertex_lined}
 use Rattle.text.proofs.Steps.{made_of, kept_ok, no_vertex, refused_vertex, next_vertex}
 use Rattle.text.proofs.reading.draw_vertices.Goals as goal
 
@@ -17,7 +17,7 @@ returns-in_err-map_err c =
     let refusal : c.in_err-map_err.field-0.0.refusal ≡ q.0 = search rules in
     let line : c.in_err-map_err.field-0.0.line ≡ c.args.line + c.loop-done.done = search rules in
     rw (p.1, p.2) (c.loop-done.invariant _ (refused_vertex _ (sheet c.loop-done.chart) (c.args.line + c.loop-done.done) c.loop-done.rest.now (c.args.count - c.loop-done.done) _ _ c.in-Some.vertex.rest.now (number_of q.0) (place_of q.0) (omega arith)
-    (vertex_line c.in-Some.ensures (search rules))
+    (vertex_lined c.in-Some.ensures (search rules))
     (sym c.place.ensures.answer ∙ ap outcome q.1) (ap₂ (λ r l. refused (number_of r) l) refusal line)))
 
 pub loop-done-preserved : goal.loop-done-preserved
@@ -27,5 +27,5 @@ loop-done-preserved c end r =
     let later : c.args.line + (c.loop-done.done + 1) ≡ c.args.line + c.loop-done.done + 1 = omega arith in
     let ok = kept_ok _ c.place.result c.map_err.result _ c.map_err.ensures.cases c.in_ok-map_err.was in
     c.loop-done.invariant end (next_vertex end a (c.args.line + c.loop-done.done) c.loop-done.rest.now (c.args.count - c.loop-done.done) _ _ c.in-Some.vertex.rest.now _ (omega arith)
-    (vertex_line c.in-Some.ensures (search rules))
+    (vertex_lined c.in-Some.ensures (search rules))
     (sym c.place.ensures.answer ∙ ap outcome ok) (rw (c.place.ensures.after, fewer, later) at r))
