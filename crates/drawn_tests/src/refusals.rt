@@ -19,6 +19,7 @@ fn numbers_and_places(rt: HostRuntime) {
         assert_eq!(rt; refusal.number(), number);
         assert_eq!(rt; refusal.place(), 0);
     }
+    assert_eq!(rt; all.len(), 7);
 }
 
 #[test]
