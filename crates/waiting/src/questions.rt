@@ -32,7 +32,6 @@ pub fn may_be_laid<C: Chart>(chart: &C) -> bool
 }
 
 /// The number of vertices of the waiting chart: 0 where it may not be laid.
-#[tactic(auto, using(game::proofs::Positions::waiting_size_is))]
 pub fn waiting_size<C: Chart>(chart: &C) -> usize
     ensures { result ≡ size (waiting (C.Chart.meaning chart.now)) }
 {
@@ -44,7 +43,6 @@ pub fn waiting_size<C: Chart>(chart: &C) -> usize
 }
 
 /// The height of the waiting chart: 0 where it may not be laid.
-#[tactic(auto, using(game::proofs::Positions::waiting_height_is))]
 pub fn waiting_height<C: Chart>(chart: &C) -> u8
     ensures { result ≡ (waiting (C.Chart.meaning chart.now)).height }
 {
