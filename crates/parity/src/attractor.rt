@@ -3,7 +3,6 @@ ghost use Rattle.parity.specs.Attractors.{turned};
 
 use super::ParityGame;
 use super::hints::Trail;
-use super::rows::number_at;
 use super::workspace::Workspace;
 use chart::Player;
 
@@ -30,9 +29,11 @@ impl<'a, G: ParityGame> Workspace<'a, G> {
 
     /// The tag at which a move ends.
     pub fn end_tag(&self, position: usize, number: usize) -> u32
+        requires position_in_bounds { position < length self.now.tags.now }
+        requires number_in_bounds { number < (board_of self.now).game.degree position }
         ensures { result ≡ (sheet_of self.now).tag ((board_of self.now).game.target position number) }
     {
-        number_at(self.tags, self.game.target(position, number))
+        self.tags[self.game.target(position, number)]
     }
 
     /// The move by which the player draws the position into the set, if it does.

@@ -40,7 +40,7 @@ impl<'a, G: ParityGame> Workspace<'a, G> {
     }
 }
 
-/// The same in tables of just its size, with memory of eight times that.
+/// Solves such a game in tables of just its size, with memory of eight times that.
 fn settle<G: ParityGame>(game: &G, winners: &mut [u32], moves: &mut [u32], memory: &mut [u32])
     requires winners_len { length winners.old ≡ (G.ParityGame.board game.now).size }
     requires moves_len { length moves.old ≡ (G.ParityGame.board game.now).size }
@@ -61,9 +61,9 @@ fn settle<G: ParityGame>(game: &G, winners: &mut [u32], moves: &mut [u32], memor
 
 /// Solves the game: writes the winner of each position, and the move that its owner is to play if
 /// it is the winner. Each player then keeps what it has won by its moves, and no other winners
-/// would do. Refuses a game in which a
-/// position has no move, tables with less than one number for each position, and memory with less
-/// than eight; a refused call changes neither table, and nothing is written past the positions.
+/// would do. Refuses a game in which a position has no move, tables with less than one number for
+/// each position, and memory with less than eight; a refused call changes neither table, and nothing
+/// is written past the positions.
 #[tactic(auto, using(crate::proofs::Settling::has_move, crate::proofs::Settling::settled_longer))]
 pub fn solve<G: ParityGame>(
     game: &G,
