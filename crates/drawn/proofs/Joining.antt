@@ -27,7 +27,7 @@ module _ (d : Drawn) (from : ℕ) (row : Row) (at : slice_get (rows d) from ≡ 
     join_ordered = let e : d.used + 1 ≡ 0 + total grown = omega (arith, grown_total) in ap₂ (laid 0) is e ∙ laid_out_laid 0 grown
 
     pub join_tinted : All (λ r. IsTrue (row_ranged r)) new_rows
-    join_tinted = rw is (tinted_laid_out 0 grown (all_adjusted (λ r. IsTrue (row_ranged r)) (with_degree (row.degree + 1)) (λ r t. t) (rows d) from d.tinted))
+    join_tinted = rw is ((tinted_laid_out 0 grown).1 (all_adjusted (λ r. IsTrue (row_ranged r)) (with_degree (row.degree + 1)) (λ r t. t) (rows d) from d.tinted))
 
     module _ (to cost : ℕ) (new_moves : List Move) (are : new_moves ≡ insert (moves d) (row.start + row.degree) (record { target = to; cost = cost })) where
       pub join_ranged : to < d.count → cost ≤ 10000 → All (λ m. IsTrue (move_ranged d.count m)) new_moves

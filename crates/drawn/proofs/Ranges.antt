@@ -1,5 +1,5 @@
 -- What edits keep of the ranges of rows and moves.
-use Rattle.std.specs.Prelude.{ℕ, zero, suc, ◌+◌, ◌<◌, ◌≤◌, List, [], ◌∷◌, take, drop, nat_le, nat_lt}
+use Rattle.std.specs.Prelude.{ℕ, zero, suc, ◌+◌, ◌<◌, ◌≤◌, ◌↔◌, List, [], ◌∷◌, take, drop, nat_le, nat_lt}
 use Rattle.std.proofs.Common.{arith}
 use Rattle.std.specs.Bool.{IsTrue}
 use Rattle.std.specs.List.{All, insert, remove}
@@ -24,11 +24,15 @@ module _ {A : Type 0} (P : A → Type 0) where
   all_adjusted f keeps (x ∷ xs) (suc i) h = All-cons P x (adjusted f xs i) (All-head P x xs h) (all_adjusted f keeps xs i (All-tail P x xs h))
 
 -- where the moves lie does not touch the colours
-pub tinted_laid_out : (k : ℕ) (rs : List Row) → All (λ r. IsTrue (row_ranged r)) rs → All (λ r. IsTrue (row_ranged r)) (laid_out k rs)
-tinted_laid_out k [] h = h
-tinted_laid_out k (r ∷ rs) h =
+pub tinted_laid_out : (k : ℕ) (rs : List Row) → All (λ r. IsTrue (row_ranged r)) (laid_out k rs) ↔ All (λ r. IsTrue (row_ranged r)) rs
+tinted_laid_out k [] = (λ h. h, λ h. h)
+tinted_laid_out k (r ∷ rs) =
     let P : Row → Type 0 = λ x. IsTrue (row_ranged x) in
-    All-cons P (with_start k r) (laid_out (k + r.degree) rs) (All-head P r rs h) (tinted_laid_out (k + r.degree) rs (All-tail P r rs h))
+    let rest = tinted_laid_out (k + r.degree) rs in
+    (
+      λ h. All-cons P r rs (All-head P (with_start k r) (laid_out (k + r.degree) rs) h) (rest.0 (All-tail P (with_start k r) (laid_out (k + r.degree) rs) h)),
+      λ h. All-cons P (with_start k r) (laid_out (k + r.degree) rs) (All-head P r rs h) (rest.1 (All-tail P r rs h)),
+    )
 
 pub move_ranged_is : (n : ℕ) (m : Move) → m.target < n → m.cost ≤ 10000 → IsTrue (move_ranged n m)
 move_ranged_is n m t c = and_from (nat_lt m.target n) (nat_le m.cost 10000) (lt-ltb m.target n t) (le-leb m.cost 10000 c)

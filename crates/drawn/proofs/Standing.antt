@@ -1,10 +1,10 @@
 -- What stands in the arrays of a drawn chart, read as its vertices and moves.
-use Rattle.std.specs.Prelude.{◌≡◌, ℕ, ◌+◌, ◌-◌, ◌<◌, ◌≤◌, List, length, take, drop, Some, None, Option, refl}
-use Rattle.std.proofs.Common.{sym, ap, ◌∙◌, inl, inr, arith, length-drop, length-take-le}
+use Rattle.std.specs.Prelude.{◌≡◌, ℕ, ◌+◌, ◌-◌, ◌<◌, ◌≤◌, List, length, take, drop, Some, None, Option, slice_index_or, refl}
+use Rattle.std.proofs.Common.{sym, ap, ◌∙◌, inl, inr, arith, length-drop, length-take-le, get_or-take}
 use Rattle.std.specs.Option.{option_map}
 use Rattle.std.specs.List.{slice_get}
 use Rattle.std.proofs.lemmas.Bool.{cases_lt}
-use Rattle.std.proofs.lemmas.Option.{slice_get_within, slice_get-get_or}
+use Rattle.std.proofs.lemmas.Option.{slice_get_within, slice_get-get_or, slice_get_past}
 use Rattle.std.proofs.lemmas.List.{take-take}
 use Rattle.std.proofs.lemmas.Slice.{between_is}
 use Rattle.chart.specs.declared.parts.Move.{Move}
@@ -15,7 +15,7 @@ use Rattle.drawn.specs.declared.sheet.Drawn.{Drawn}
 use Rattle.drawn.specs.Rows.{total}
 use Rattle.drawn.specs.Rules.{move_count, degree_at, degree_or_none}
 use Rattle.drawn.specs.Meaning.{rows, moves, sheet}
-use Rattle.drawn.specs.Readings.{rows_length, moves_length}
+use Rattle.drawn.specs.Readings.{rows_length, moves_length, size_is}
 use Rattle.drawn.proofs.LaidOut.{laid_end, laid_start}
 use Rattle.drawn.proofs.Vertices.{vertex_with, count_vertices, nth_vertices, ends_within}
 
@@ -37,11 +37,17 @@ module _ (d : Drawn) where
   abbrev pub vertex_of : Row → Vertex
   vertex_of r = vertex_with r (its_moves r)
 
+  pub row_is : (v : ℕ) → v < d.count → slice_get (rows d) v ≡ Some (slice_index_or d.rows v no_row)
+  row_is v h = slice_get-get_or (rows d) v no_row (omega (arith, rows_length d)) ∙ ap Some (get_or-take d.count d.rows v no_row h)
+
   pub absent : (v : ℕ) → slice_get (rows d) v ≡ None → d.count ≤ v
   absent v none = elim (cases_lt v d.count) [
-    | inl h ↦ let there = slice_get-get_or (rows d) v no_row (omega (arith, rows_length d)) in cc
+    | inl h ↦ let there = row_is v h in cc
     | inr h ↦ h
   ]
+
+  pub past : (v : ℕ) → d.count ≤ v → vertex_at (sheet d) v ≡ None
+  past v h = slice_get_past (sheet d).vertices v (omega (arith, size_is d))
 
   -- a row that is there
   module _ (v : ℕ) (r : Row) (is : slice_get (rows d) v ≡ Some r) where
@@ -85,5 +91,9 @@ module _ (d : Drawn) where
   pub move_is : (v : ℕ) (r : Row) → slice_get (rows d) v ≡ Some r → (i : ℕ) → move_at (sheet d) v i ≡ slice_get (its_moves r) i
   move_is v r is i = ap (λ o. and_then o (λ x. slice_get x.moves i)) (vertex_is v ∙ ap (option_map vertex_of) is)
 
-  pub move_absent : (v : ℕ) → slice_get (rows d) v ≡ None → (i : ℕ) → move_at (sheet d) v i ≡ None
-  move_absent v none i = ap (λ o. and_then o (λ x. slice_get x.moves i)) (vertex_is v ∙ ap (option_map vertex_of) none)
+  -- past the last move of a vertex, and at a vertex that is not there
+  pub move_absent : (v : ℕ) (r : Row) → slice_get (rows d) v ≡ Some r → (i : ℕ) → r.degree ≤ i → move_at (sheet d) v i ≡ None
+  move_absent v r is i le = move_is v r is i ∙ slice_get_past (its_moves r) i (omega (arith, moves_are v r is))
+
+  pub no_moves : (v : ℕ) → slice_get (rows d) v ≡ None → (i : ℕ) → move_at (sheet d) v i ≡ None
+  no_moves v none i = ap (λ o. and_then o (λ x. slice_get x.moves i)) (vertex_is v ∙ ap (option_map vertex_of) none)

@@ -31,7 +31,7 @@ module _ (d : Drawn) (vertex number : ℕ) (row : Row) (at : slice_get (rows d) 
     strike_ordered = let e : d.used - 1 ≡ 0 + total shrunk = omega (arith, shrunk_total) in ap₂ (laid 0) is e ∙ laid_out_laid 0 shrunk
 
     pub strike_tinted : All (λ r. IsTrue (row_ranged r)) new_rows
-    strike_tinted = rw is (tinted_laid_out 0 shrunk (all_adjusted (λ r. IsTrue (row_ranged r)) (with_degree (row.degree - 1)) (λ r t. t) (rows d) vertex d.tinted))
+    strike_tinted = rw is ((tinted_laid_out 0 shrunk).1 (all_adjusted (λ r. IsTrue (row_ranged r)) (with_degree (row.degree - 1)) (λ r t. t) (rows d) vertex d.tinted))
 
     module _ (new_moves : List Move) (are : new_moves ≡ remove (moves d) (row.start + number)) where
       pub strike_ranged : All (λ m. IsTrue (move_ranged d.count m)) new_moves

@@ -1,5 +1,5 @@
 -- Lemmas: a drawn chart keeps to the ranges of a chart, and numbers name its vertices. They stand in specs/ since laws of a chart cite them.
-use Rattle.std.specs.Prelude.{◌≡◌, ℕ, ◌<◌, ◌≤◌, cond, List, [], ◌∷◌, length, drop, is_some as option_is_some, Some, None, nat_le, nat_lt, refl}
+use Rattle.std.specs.Prelude.{◌≡◌, ℕ, ◌<◌, ◌≤◌, cond, List, [], ◌∷◌, length, take, drop, is_some as option_is_some, Some, None, nat_le, nat_lt, refl}
 use Rattle.std.proofs.Common.{sym, ap, ◌∙◌, arith, length-drop, length-take-le, inl, inr}
 use Rattle.std.specs.Bool.{IsTrue}
 use Rattle.std.specs.List.{All, AllByRecursion}
@@ -30,6 +30,9 @@ move_facts n m h =
     let p = and_parts (nat_lt m.target n) (nat_le m.cost 10000) h in
     record { target = ltb-true m.target n p.0; cost = leb-true m.cost 10000 p.1 }
 
+moves_ranged : (n : ℕ) (ms : List Move) → All (λ m. IsTrue (move_ranged n m)) ms → AllByRecursion (RangedMove n) ms
+moves_ranged n ms h = recursion_from_All (RangedMove n) ms (All-weaker (λ m. IsTrue (move_ranged n m)) (RangedMove n) (move_facts n) ms h)
+
 pub vertices_ranged : (n : ℕ) (rs : List Row) (ms : List Move) →
     All (λ r. IsTrue (row_ranged r)) rs → All (λ m. IsTrue (move_ranged n m)) ms → length ms ≤ 1024 → AllByRecursion (RangedVertex n 8) (vertices_of rs ms)
 vertices_ranged n [] ms a b c = tt
@@ -38,7 +41,7 @@ vertices_ranged n (r ∷ rs) ms a b c = (
     owner = owner_low r.owner;
     colour = leb-true r.colour 8 (All-head (λ x. IsTrue (row_ranged x)) r rs a);
     few = omega (arith, length-take r.degree ms);
-    moves = recursion_from_All (RangedMove n) _ (All-weaker (λ m. IsTrue (move_ranged n m)) (RangedMove n) (move_facts n) _ (All-take (λ m. IsTrue (move_ranged n m)) r.degree ms b));
+    moves = moves_ranged n (take r.degree ms) (All-take (λ m. IsTrue (move_ranged n m)) r.degree ms b);
   },
   vertices_ranged n rs (drop r.degree ms) (All-tail (λ x. IsTrue (row_ranged x)) r rs a) (All-drop (λ m. IsTrue (move_ranged n m)) r.degree ms b) (omega (arith, length-drop r.degree ms)),
 )

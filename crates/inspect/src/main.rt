@@ -12,9 +12,9 @@ mod survey;
 /// Reads a chart text from standard input and tells what the chart has.
 fn main(rt: HostRuntime) -> io::Result<()> {
     let mut buffer = [0u8; MOST_BYTES];
-    let text = fill(&rt, &mut buffer)?;
+    let filled = fill(&rt, &mut buffer)?;
     let mut chart = Drawn::new();
-    match read(&mut chart, text) {
+    match read(&mut chart, &buffer[..filled]) {
         Ok(()) => tell(&rt, chart),
         Err(misread) => println!(rt; "{misread}"),
     }

@@ -10,18 +10,18 @@ use std::io::Read;
 pub const MOST_BYTES: usize = 32768;
 
 /// Fills the front of the buffer from standard input, until the input ends or
-/// the buffer is full, and lends the bytes that came.
-pub fn fill<'a>(rt: &HostRuntime, buffer: &'a mut [u8]) -> io::Result<&'a [u8]>
-    ensures { IfOk result (λ came. length came.now ≤ length buffer.old) }
+/// the buffer is full, and answers how many bytes came.
+pub fn fill(rt: &HostRuntime, buffer: &mut [u8]) -> io::Result<usize>
+    ensures { IfOk result (λ n. n ≤ length buffer.old) }
 {
     let mut input = rt.stdin();
     let mut filled = 0;
-    while filled < buffer.len() {
+    for _ in 0..buffer.len() {
         let came = input.read(&mut buffer[filled..])?;
         if came == 0 {
             break;
         }
         filled += came;
     }
-    Ok(&buffer[..filled])
+    Ok(filled)
 }

@@ -7,7 +7,7 @@ use Rattle.parity.specs.Attractors.{Drawn, outside}
 use Rattle.parity.specs.Rounds.{Seeded, Highest, Given}
 use Rattle.parity.specs.Solving.{Region, Solved, Round}
 use Rattle.parity.proofs.Topped.{Topped, topped, topped_region}
-use Rattle.parity.proofs.Turns.{within, round_over, round_again, round_less, last_region, round_last}
+use Rattle.parity.proofs.Turns.{round_start, within, round_over, round_again, round_less, last_region, round_last}
 
 -- a sheet with another's winners and moves
 with_tags : (u x : Sheet) → u.winner ≡ x.winner → u.move ≡ x.move → record { tag = u.tag; winner = x.winner; move = x.move } ≡ u
@@ -28,6 +28,9 @@ module _ (b : Board) (r : Ranged b) (colours bound : ℕ) (some_colour : ¬ (col
   few = omega arith
 
   -- what holds whoever the player i of the round and its opponent o are
+  pub step_start : (o : ℕ) → Round b o mark bound first first
+  step_start o = round_start b r o mark bound room first colours g
+
   module _ (i o : ℕ) (a : Sheet) (now : Round b o mark bound first a) where
     inner : (p : ℕ) → p < b.size → a.tag p ≤ mark → first.tag p < bound
     inner = within b r o mark bound room first colours g a now

@@ -3,7 +3,7 @@ use Rattle.std.proofs.Common.{◌≡◌, ℕ, ◌+◌, ◌%◌, ◌<◌, ◌≤�
 use native.Mathlib.Decide.{ℕ_discrete}
 use Rattle.std.proofs.lemmas.Bool.{cases_lt}
 use Rattle.walks.specs.Games.{Keeps, Descends, AtTop, Trap}
-use Rattle.walks.proofs.Keeping.{attractor_kept, whole_kept, trap_kept, join_kept, same_kept, same_sets}
+use Rattle.walks.proofs.Keeping.{attractor_kept, whole_kept, trap_kept, join_kept, same_kept, same_sets, none_kept}
 use Rattle.parity.specs.Boards.{Board, Ranged}
 use Rattle.parity.specs.Sheets.{Sheet, Kept, Under, Marked}
 use Rattle.parity.specs.Attractors.{Falls, Drawn, outside}
@@ -35,8 +35,21 @@ falls_descends b r i m t s u rank R p lt e out into f =
           ];
     }
 
--- what is left in the region, whoever the opponent o is
+-- how the rounds begin, and what is left in the region: whoever the opponent o is
 module _ (b : Board) (r : Ranged b) (o m bound : ℕ) (e : bound ≡ m + 2) (first : Sheet) (count : ℕ) (g : Region b count bound first) where
+  pub round_start : Round b o m bound first first
+  round_start =
+      record {
+        past = λ p lt h. record { tag = refl; winner = refl; move = refl };
+        inside = λ p lt h. h;
+        gained = none_kept b.game o _ _ _ (λ p u. (let x = u.1 in let y = g.fresh p u.0 (omega arith) in omega arith));
+        owned = λ p lt h. absurd (let y = g.fresh p lt (omega arith) in omega arith);
+        total = λ p lt h.
+            let u = g.total p lt (omega arith) in
+            (u.0, u.1, (let y = g.fresh _ (r.targets p u.0 lt u.1) u.2 in omega arith));
+        trap = λ p l lt h own k n. (let y = g.fresh _ (r.targets p l lt k) (omega arith) in omega arith);
+      }
+
   pub within : (a : Sheet) → Round b o m bound first a → (p : ℕ) → p < b.size → a.tag p ≤ m → first.tag p < bound
   within a now p lt h = elim (cases_lt (first.tag p) bound) [ inl x ↦ x | inr x ↦ absurd (let k = (now.past p lt x).tag in omega arith) ]
 

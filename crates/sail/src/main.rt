@@ -20,9 +20,9 @@ fn main(rt: HostRuntime) -> anyhow::Result<()> {
 
 fn run(rt: &HostRuntime) -> anyhow::Result<()> {
     let mut buffer = [0u8; MOST_BYTES];
-    let text = fill(rt, &mut buffer)?;
+    let filled = fill(rt, &mut buffer)?;
     let mut chart = Drawn::new();
-    match read(&mut chart, text) {
+    match read(&mut chart, &buffer[..filled]) {
         Ok(()) => sail(rt, &chart),
         Err(misread) => {
             println!(rt; "{misread}")?;

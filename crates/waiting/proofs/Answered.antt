@@ -1,6 +1,6 @@
 -- What the waiting chart answers about a number, by the position that lies there.
 use Rattle.std.specs.Prelude.{◌≡◌, ℕ, zero, suc, ◌<◌, true, [], ◌∷◌, map, length, Some, None, ◌==◌, nat_lt}
-use Rattle.std.proofs.Common.{sym, ap, ◌∙◌, inl, inr, arith}
+use Rattle.std.proofs.Common.{◌≢◌, refl, sym, ap, ◌∙◌, inl, inr, arith}
 use Rattle.std.specs.Bool.{then_some}
 use Rattle.std.specs.Option.{option_map}
 use Rattle.std.specs.List.{slice_get}
@@ -113,9 +113,13 @@ module _ (a : Arena) where
       pub move_off : (i : ℕ) → slice_get (paying a p ∷ []) i ≡ move_at (waiting a) p i
       move_off i = sym (moves_off a laid_there p low_there stage_off i)
 
+      pub move_beyond : (i : ℕ) → (i ≢ 0) → None ≡ move_at (waiting a) p i
+      move_beyond zero n = absurd (n refl)
+      move_beyond (suc i) n = move_off (suc i)
+
       pub move_paid : (i t : ℕ) → t ≡ place a x.below x.level 0 → then_some (i == 0) (record { target = t; cost = 0 }) ≡ move_at (waiting a) p i
       move_paid zero t is = ap (λ n. Some (record { target = n; cost = 0 })) (is ∙ ap (λ y. place a y.below y.level 0) (sym is_spot)) ∙ move_off 0
-      move_paid (suc i) t is = ap (λ b. then_some b (record { target = t; cost = 0 })) (ne_eqb (suc i) 0 (λ z. omega (arith, z))) ∙ move_off (suc i)
+      move_paid (suc i) t is = ap (λ b. then_some b (record { target = t; cost = 0 })) (ne_eqb (suc i) 0 (λ z. omega (arith, z))) ∙ move_beyond (suc i) (λ z. omega (arith, z))
 
   -- a colour that is answered below
   pub colour_known : (v k : ℕ) → Some k ≡ option_map (λ y. y.colour) (vertex_at a v) → (v < size a) × (colour_of a v ≡ k)

@@ -3,13 +3,13 @@ use Rattle.std.specs.List.{slice_get}
 use Rattle.std.proofs.lemmas.Grind.{common_steps}
 use Rattle.std.proofs.lemmas.Option.{gets}
 use Rattle.drawn.specs.Meaning.{rows}
-use Rattle.drawn.proofs.Standing.{ends_in, its_moves_are, move_is, move_absent}
+use Rattle.drawn.proofs.Standing.{ends_in, its_moves_are, move_is, no_moves}
 use Rattle.drawn.proofs.answers.DrawnChart.move_at.Goals as goal
 
 pub returns-in_err-row : goal.returns-in_err-row
 returns-in_err-row c =
     let none : slice_get (rows c.args.self.now) c.args.vertex ≡ None = sym c.in_err-row.ensures in
-    c.from_residual.ensures ∙ sym (move_absent c.args.self.now c.args.vertex none c.args.number)
+    c.from_residual.ensures ∙ sym (no_moves c.args.self.now c.args.vertex none c.args.number)
 
 pub overflow_add-row : goal.overflow_add-row
 overflow_add-row c =
