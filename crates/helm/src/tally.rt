@@ -21,12 +21,11 @@ fn grow_all(waits: &mut [u64], cost: u32)
     }
 }
 
-/// The entry of the colour `own` after an arrival at `colour`. The type of `own` is wide
-/// enough for every entry of a tally, however long.
-fn meet(colour: u8, own: u128, entry: u64) -> u64
+/// The entry of the colour `own` after an arrival at `colour`.
+fn meet(colour: u8, own: usize, entry: u64) -> u64
     ensures { result ≡ met colour own entry }
 {
-    let colour = u128::from(colour);
+    let colour = usize::from(colour);
     if colour % 2 == 1 {
         if own == colour && entry == 0 {
             1
@@ -45,7 +44,7 @@ fn arrive(waits: &mut [u64], colour: u8)
     ensures { waits.new ≡ arrived colour 1 waits.old }
 {
     for (i, entry) in waits.iter_mut().enumerate() {
-        *entry = meet(colour, 2 * i as u128 + 1, *entry);
+        *entry = meet(colour, 2 * i + 1, *entry);
     }
 }
 
@@ -59,7 +58,7 @@ fn longest(waits: &[u64]) -> u64
 }
 
 /// The highest colour that waits, 0 for none.
-pub fn highest(waits: &[u64]) -> u8
+pub(crate) fn highest(waits: &[u64]) -> u8
     requires { length waits.now ≤ 127 }
     ensures { result ≡ highest_open 1 waits.now }
 {
@@ -69,7 +68,7 @@ pub fn highest(waits: &[u64]) -> u8
 
 /// Clears the entries and opens the request of the first colour.
 #[tactic(auto, using(crate::proofs::Entries::cleared_is))]
-pub fn open(waits: &mut [u64], first: u8)
+pub(crate) fn open(waits: &mut [u64], first: u8)
     ensures { waits.new ≡ arrived first 1 (cleared waits.old) }
 {
     waits.fill(0);
@@ -77,7 +76,7 @@ pub fn open(waits: &mut [u64], first: u8)
 }
 
 /// Makes a move of that cost to that colour; answers the greatest wait before it arrives.
-pub fn pass(waits: &mut [u64], cost: u32, colour: u8) -> u64
+pub(crate) fn pass(waits: &mut [u64], cost: u32, colour: u8) -> u64
     ensures after { waits.new ≡ arrived colour 1 (map (grown cost) waits.old) }
     ensures answer { result ≡ longest_of (map (grown cost) waits.old) }
 {
