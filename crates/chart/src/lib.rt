@@ -39,6 +39,7 @@ pub trait Chart {
     fn owner(&self, vertex: usize) -> Option<Player>
         ensures { option_map numbered result ≡ option_map (λ v. v.owner) (vertex_at (meaning self.now) vertex) };
 
+    /// The colour of the vertex, at most the height.
     fn colour(&self, vertex: usize) -> Option<u8>
         ensures { result ≡ option_map (λ v. v.colour) (vertex_at (meaning self.now) vertex) };
 
@@ -50,6 +51,7 @@ pub trait Chart {
     fn move_at(&self, vertex: usize, number: usize) -> Option<Move>
         ensures { result ≡ move_at (meaning self.now) vertex number };
 
+    /// The name of the vertex.
     fn name(&self, vertex: usize) -> Option<Self::Name>
         ensures { result ≡ naming self.now vertex };
 

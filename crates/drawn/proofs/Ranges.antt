@@ -28,8 +28,7 @@ pub tinted_laid_out : (k : ℕ) (rs : List Row) → All (λ r. IsTrue (row_range
 tinted_laid_out k [] = (λ h. h, λ h. h)
 tinted_laid_out k (r ∷ rs) =
     let P : Row → Type 0 = λ x. IsTrue (row_ranged x) in
-    let rest = tinted_laid_out (k + r.degree) rs in
-    (
+    let rest = tinted_laid_out (k + r.degree) rs in (
       λ h. All-cons P r rs (All-head P (with_start k r) (laid_out (k + r.degree) rs) h) (rest.0 (All-tail P (with_start k r) (laid_out (k + r.degree) rs) h)),
       λ h. All-cons P (with_start k r) (laid_out (k + r.degree) rs) (All-head P r rs h) (rest.1 (All-tail P r rs h)),
     )

@@ -14,7 +14,7 @@ abbrev pub moves : Drawn → List Move
 moves d = take d.used d.moves
 
 abbrev pub sheet : Drawn → Arena
-sheet d = record { height = 8; vertices = vertices_of (take d.count d.rows) (take d.used d.moves) }
+sheet d = record { height = 8; vertices = vertices_of (rows d) (moves d) }
 
 -- a number that is a vertex of n
 abbrev pub itself : ℕ → ℕ → Option ℕ

@@ -2,15 +2,15 @@ ghost use Rattle.std.specs.Prelude.{◌≡◌, ◌<◌};
 ghost use Rattle.parity.specs.Attractors.{turned};
 
 use super::ParityGame;
-use super::hints::Trail;
+use super::trail::Trail;
 use super::workspace::Workspace;
 use chart::Player;
 
 /// The set of the positions of a mark, into which its player draws what it can.
 #[derive(Clone, Copy)]
-pub struct Attractor {
-    pub player: Player,
-    pub mark: u32,
+pub(crate) struct Attractor {
+    pub(crate) player: Player,
+    pub(crate) mark: u32,
 }
 
 /// The position that comes at a place of a sweep up, or down.
@@ -28,11 +28,12 @@ impl<'a, G: ParityGame> Workspace<'a, G> {
     ghost use Rattle.parity.specs.Workspaces.{board_of, sheet_of, Same};
 
     /// The tag at which a move ends.
-    pub fn end_tag(&self, position: usize, number: usize) -> u32
+    pub(crate) fn end_tag(&self, position: usize, number: usize) -> u32
         requires position_in_bounds { position < length self.now.tags.now }
         requires number_in_bounds { number < (board_of self.now).game.degree position }
         ensures { result ≡ (sheet_of self.now).tag ((board_of self.now).game.target position number) }
     {
+        // Proved to be within the table: a test at each read takes a third more instructions.
         self.tags[self.game.target(position, number)]
     }
 
@@ -44,6 +45,8 @@ impl<'a, G: ParityGame> Workspace<'a, G> {
           | None ↦ Leaks (board_of self.now).game (numbered attractor.player) attractor.mark (sheet_of self.now).tag position
         ] }
     {
+        // Loops, not `find` and `all`: what a closure that asks the game answers is out of the proof's
+        // reach.
         let degree = self.game.degree(position);
         if self.game.owner(position) == attractor.player {
             for ours in 0..degree {
@@ -148,7 +151,7 @@ impl<'a, G: ParityGame> Workspace<'a, G> {
 
     /// Draws into the set every position of a lower tag from which the player can force a way
     /// there: first along the trail, then in sweeps until one finds nothing more.
-    pub fn attract(&mut self, attractor: Attractor, trail: &mut Trail<'_>)
+    pub(crate) fn attract(&mut self, attractor: Attractor, trail: &mut Trail<'_>)
         ensures same { Same self.old self.new }
         ensures drawn { Drawn (board_of self.old) (numbered attractor.player) attractor.mark
             (sheet_of self.old) (sheet_of self.new) }

@@ -7,11 +7,11 @@ ghost use Rattle.parity.specs.Boards.{Board, Ranged};
 use chart::Player;
 
 mod attractor;
-mod hints;
 mod recursion;
 mod round;
 pub mod rows;
 pub mod solver;
+mod trail;
 mod workspace;
 
 /// A finite parity game. The highest colour that comes again and again decides a play: even is good
@@ -28,6 +28,7 @@ pub trait ParityGame {
     fn owner(&self, position: usize) -> Player
         ensures { numbered result ≡ (board self.now).game.owner position };
 
+    /// The colour of the position.
     fn colour(&self, position: usize) -> u8
         ensures { result ≡ (board self.now).game.colour position };
 

@@ -3,7 +3,7 @@ ghost use Rattle.chart.specs.Players.{numbered};
 
 use super::ParityGame;
 use super::attractor::Attractor;
-use super::hints::Trail;
+use super::trail::Trail;
 use super::workspace::Workspace;
 use chart::Player;
 
@@ -28,7 +28,7 @@ impl<'a, G: ParityGame> Workspace<'a, G> {
     /// The player of the highest colour draws in what it can, and what is left is solved by itself.
     /// What the other player wins there, and what it draws in from there, is its for good; so it
     /// goes on with the rest until the other wins nothing more.
-    pub fn solve_region(&mut self, colours: u32, bound: u32, trail: &mut Trail<'_>)
+    pub(crate) fn solve_region(&mut self, colours: u32, bound: u32, trail: &mut Trail<'_>)
         requires { Region (board_of self.old) colours bound (sheet_of self.old) }
         ensures same { Same self.old self.new }
         ensures solved { Solved (board_of self.old) bound (sheet_of self.old) (sheet_of self.new) }

@@ -9,11 +9,12 @@ impl<'a, G: ParityGame> Workspace<'a, G> {
     ghost use Rattle.parity.specs.Rounds.{Stays, Seeded, SeededAt, Highest, Given};
     ghost use Rattle.parity.specs.Workspaces.{board_of, sheet_of, Same};
 
-    /// A move from the position that ends at a tag of at most the mark, if there is one.
+    /// A move from the position that ends at a tag of at most the mark; 0 where there is none.
     fn stay(&self, mark: u32, position: usize) -> u32
         requires { position < length self.now.tags.now }
         ensures { Stays (board_of self.now).game mark (sheet_of self.now).tag position result }
     {
+        // A loop, not `find`: what a closure that asks the game answers is out of the proof's reach.
         for number in 0..self.game.degree(position) {
             if self.end_tag(position, number) <= mark {
                 return number as u32;
@@ -44,7 +45,7 @@ impl<'a, G: ParityGame> Workspace<'a, G> {
     }
 
     /// Seeds the positions of a tag of at most the mark, and says whether one has the colour.
-    pub fn seed(&mut self, colour: u32, attractor: Attractor) -> bool
+    pub(crate) fn seed(&mut self, colour: u32, attractor: Attractor) -> bool
         ensures same { Same self.old self.new }
         ensures seeded { Seeded (board_of self.old).game colour (numbered attractor.player) attractor.mark (board_of self.old).size
             (sheet_of self.old) (sheet_of self.new) result }
@@ -58,7 +59,7 @@ impl<'a, G: ParityGame> Workspace<'a, G> {
 
     /// The least number above every colour at a tag below the bound.
     #[tactic(auto, using(crate::proofs::Highest::highest_same, crate::proofs::Highest::highest_more))]
-    pub fn highest(&self, bound: u32) -> u32
+    pub(crate) fn highest(&self, bound: u32) -> u32
         ensures { Highest (board_of self.now).game bound (board_of self.now).size (sheet_of self.now).tag result }
     {
         let mut least = 0;
@@ -72,7 +73,7 @@ impl<'a, G: ParityGame> Workspace<'a, G> {
 
     /// Hands over what the other player has won at a tag below the mark, and says whether there is
     /// any.
-    pub fn give(&mut self, other: Player, mark: u32) -> bool
+    pub(crate) fn give(&mut self, other: Player, mark: u32) -> bool
         requires { mark + 1 < 2 ^ 32 }
         ensures same { Same self.old self.new }
         ensures given { Given (numbered other) mark (board_of self.old).size (sheet_of self.old).winner
@@ -81,6 +82,7 @@ impl<'a, G: ParityGame> Workspace<'a, G> {
         ensures moves { self.new.moves.now ≡ self.old.moves.now }
     {
         let mut some = false;
+        // By index: zipped with the winners, the tags are out of the proof's reach.
         for position in 0..self.tags.len() {
             if self.tags[position] < mark && self.winners[position] == u32::from(other) {
                 self.tags[position] = mark + 1;

@@ -3,7 +3,7 @@ ghost use Rattle.chart.specs.Refusals.{outcome};
 ghost use Rattle.parity.specs.Promise.{dead_end, verdict, Settled, Sole};
 
 use super::ParityGame;
-use super::hints::Trail;
+use super::trail::Trail;
 use super::workspace::Workspace;
 use chart::refusal::Refusal;
 
@@ -14,6 +14,7 @@ const MEMORY: usize = 8;
 fn dead_end<G: ParityGame>(game: &G) -> Option<usize>
     ensures { result ≡ dead_end (G.ParityGame.board game.now) }
 {
+    // A loop, not `find`: what a closure that asks the game answers is out of the proof's reach.
     for position in 0..game.size() {
         if game.degree(position) == 0 {
             return Some(position);
@@ -40,7 +41,8 @@ impl<'a, G: ParityGame> Workspace<'a, G> {
     }
 }
 
-/// Solves such a game in tables of just its size, with memory of eight times that.
+/// Solves a game in which every position has a move, in tables of just its size and memory of eight
+/// times that.
 fn settle<G: ParityGame>(game: &G, winners: &mut [u32], moves: &mut [u32], memory: &mut [u32])
     requires winners_len { length winners.old ≡ (G.ParityGame.board game.now).size }
     requires moves_len { length moves.old ≡ (G.ParityGame.board game.now).size }

@@ -6,10 +6,10 @@ use super::ParityGame;
 /// tag says which region a position is in, the winner who has won it so far, and the move what its
 /// owner is to play.
 #[derive(Drop)]
-pub struct Workspace<'a, G: ParityGame> {
-    pub game: &'a G,
-    pub tags: &'a mut [u32],
-    pub winners: &'a mut [u32],
-    pub moves: &'a mut [u32],
+pub(crate) struct Workspace<'a, G: ParityGame> {
+    pub(crate) game: &'a G,
+    pub(crate) tags: &'a mut [u32],
+    pub(crate) winners: &'a mut [u32],
+    pub(crate) moves: &'a mut [u32],
     ghost sized: { Sized (G.ParityGame.board game.now).size tags.now winners.now moves.now },
 }

@@ -65,6 +65,7 @@ pub fn rest(number: u64, by: u64) -> u64
 pub fn put<T: Copy>(table: &mut [T], place: usize, value: T)
     ensures { table.new ≡ set table.old place value }
 {
+    // By index: of what is written through `get_mut` a clause knows no more than the length.
     if place < table.len() {
         table[place] = value;
     }
@@ -92,7 +93,7 @@ impl Room {
     };
 
     /// The tables of a game of the size, unless it has more positions than there is room for.
-    pub fn tables(&mut self, size: u64) -> Option<Tables<'_>>
+    pub fn tables(&mut self, size: u64) -> Option<GameTables<'_>>
         ensures room { IsSome result ↔ (size ≤ 4096) }
         ensures owners { IfSome result (λ t. t.owners.now ≡ take size self.old.owners) }
         ensures colours { IfSome result (λ t. t.colours.now ≡ take size self.old.colours) }
@@ -106,7 +107,7 @@ impl Room {
             starts,
             targets,
         } = self;
-        Some(Tables {
+        Some(GameTables {
             owners: owners.get_mut(..size)?,
             colours: colours.get_mut(..size)?,
             starts: starts.get_mut(..=size)?,
@@ -118,7 +119,7 @@ impl Room {
 /// The tables of a game, lent to be laid: a number for each position in the first two, one more
 /// among the starts, and four for each among the targets.
 #[derive(Drop)]
-pub struct Tables<'a> {
+pub struct GameTables<'a> {
     pub owners: &'a mut [u8],
     pub colours: &'a mut [u8],
     pub starts: &'a mut [u32],
@@ -262,8 +263,8 @@ impl Plan {
     }
 
     /// Lays the game into the tables, and lends them as a game that can be solved.
-    pub fn lay<'a>(&self, tables: Tables<'a>) -> Rows<'a> {
-        let Tables {
+    pub fn lay<'a>(&self, tables: GameTables<'a>) -> Rows<'a> {
+        let GameTables {
             owners,
             colours,
             starts,

@@ -38,7 +38,7 @@ fn agrees<G: ParityGame, const N: usize>(game: &G, steps: Option<usize>) -> bool
         && steps.is_none_or(|steps| confirms(game, &winners, steps))
 }
 
-/// The same of a game of a family, of at most 4,096 positions.
+/// Whether the two solvers agree on a game of a family, of at most 4,096 positions.
 pub fn family_agrees(plan: &Plan, steps: Option<usize>) -> bool {
     let mut room = Room::EMPTY;
     match room.tables(plan.size) {

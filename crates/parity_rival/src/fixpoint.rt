@@ -1,5 +1,6 @@
 ghost use Rattle.std.specs.Prelude.{◌≡◌, slice_index};
 
+use chart::Player;
 use parity::ParityGame;
 use parity_games::put;
 
@@ -8,6 +9,15 @@ pub fn get(table: &[u32], place: usize) -> u32
     ensures { result ≡ slice_index table.now place }
 {
     table.get(place).copied().unwrap_or(0)
+}
+
+/// The player for whom a colour is good that comes again and again.
+pub fn favoured(colour: u8) -> Player {
+    if colour % 2 == 0 {
+        Player::Controller
+    } else {
+        Player::Harbour
+    }
 }
 
 /// Guesses at who wins each position of a game: the player of its colour, or the other where the
@@ -20,14 +30,18 @@ struct Guesses<'a, G: ParityGame> {
 
 impl<'a, G: ParityGame> Guesses<'a, G> {
     /// Who wins the position as it is guessed so far.
-    fn guess(&self, position: usize) -> u32 {
-        (u32::from(self.game.colour(position)) % 2) ^ (get(self.turned, position) % 2)
+    fn guess(&self, position: usize) -> Player {
+        let player = favoured(self.game.colour(position));
+        match get(self.turned, position) % 2 {
+            0 => player,
+            _ => player.opponent(),
+        }
     }
 
     /// Whether the guesses one step on speak for the player: a guess for the owner, if it is the
     /// player, and none, if it is the other.
-    fn speak_for(&self, player: u32, position: usize) -> bool {
-        let owner = u32::from(self.game.owner(position));
+    fn speak_for(&self, player: Player, position: usize) -> bool {
+        let owner = self.game.owner(position);
         let wins = (0..self.game.degree(position))
             .map(|number| self.game.target(position, number))
             .any(|end| self.guess(end) == owner);
@@ -41,7 +55,7 @@ impl<'a, G: ParityGame> Guesses<'a, G> {
         for position in 0..self.game.size() {
             if self.game.colour(position) == colour
                 && get(self.turned, position) == 0
-                && !self.speak_for(u32::from(colour) % 2, position)
+                && !self.speak_for(favoured(colour), position)
             {
                 put(self.turned, position, 1);
                 some = true;
@@ -64,7 +78,7 @@ impl<'a, G: ParityGame> Guesses<'a, G> {
     fn settle(&mut self) {
         for position in 0..self.game.size() {
             let winner = self.guess(position);
-            put(self.turned, position, winner);
+            put(self.turned, position, u32::from(winner));
         }
     }
 }

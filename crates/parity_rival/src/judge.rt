@@ -1,4 +1,5 @@
-use super::fixpoint::get;
+use super::fixpoint::{favoured, get};
+use chart::Player;
 use parity::ParityGame;
 use parity_games::put;
 
@@ -15,6 +16,7 @@ pub struct Search<const N: usize> {
 }
 
 impl<const N: usize> Search<N> {
+    /// No search yet.
     pub fn new() -> Search<N> {
         Search {
             signs: [0; N],
@@ -60,8 +62,9 @@ pub struct Verdict<'a, G: ParityGame> {
 }
 
 impl<'a, G: ParityGame> Verdict<'a, G> {
-    fn winner(&self, position: usize) -> u32 {
-        get(self.winners, position)
+    /// Who wins the position, if the verdict names a player.
+    fn winner(&self, position: usize) -> Option<Player> {
+        Player::try_from(get(self.winners, position)).ok()
     }
 
     /// The number of the move that the verdict gives.
@@ -69,31 +72,33 @@ impl<'a, G: ParityGame> Verdict<'a, G> {
         get(self.moves, position) as usize
     }
 
-    fn owns(&self, player: u32, position: usize) -> bool {
-        u32::from(self.game.owner(position)) == player
+    fn owns(&self, player: Player, position: usize) -> bool {
+        self.game.owner(position) == player
     }
 
     /// Whether the move may be played where the player goes by the verdict: its choice, or any move
     /// of the other player.
-    fn plays(&self, player: u32, position: usize, number: usize) -> bool {
+    fn plays(&self, player: Player, position: usize, number: usize) -> bool {
         !self.owns(player, position) || self.choice(position) == number
     }
 
     /// Whether the player of the position's half has a move that exists, and no play leaves the
     /// half.
-    fn stays(&self, position: usize) -> bool {
-        let player = self.winner(position);
+    fn stays(&self, player: Player, position: usize) -> bool {
         let degree = self.game.degree(position);
-        player <= 1
-            && (!self.owns(player, position) || self.choice(position) < degree)
+        (!self.owns(player, position) || self.choice(position) < degree)
             && (0..degree)
                 .filter(|number| self.plays(player, position, *number))
-                .all(|number| self.winner(self.game.target(position, number)) == player)
+                .all(|number| self.winner(self.game.target(position, number)) == Some(player))
     }
 
     /// Whether a play comes back to the position with no higher colour between.
-    fn returns<const N: usize>(&self, start: usize, search: &mut Search<N>) -> bool {
-        let player = self.winner(start);
+    fn returns<const N: usize>(
+        &self,
+        player: Player,
+        start: usize,
+        search: &mut Search<N>,
+    ) -> bool {
         search.begin(start);
         for _ in 0..self.game.size() {
             let Some(position) = search.next() else {
@@ -113,12 +118,19 @@ impl<'a, G: ParityGame> Verdict<'a, G> {
         false
     }
 
-    /// Whether each player keeps its half by its moves: no play leaves it, and none comes back to a
-    /// position of the other's colour without a higher one between.
+    /// Whether the position's winner keeps it: no play leaves the winner's half, and none comes back
+    /// to the position with no higher colour between, unless its colour is good for the winner.
+    fn keeps<const N: usize>(&self, position: usize, search: &mut Search<N>) -> bool {
+        let Some(player) = self.winner(position) else {
+            return false;
+        };
+        self.stays(player, position)
+            && (favoured(self.game.colour(position)) == player
+                || !self.returns(player, position, search))
+    }
+
+    /// Whether each player keeps its half by its moves.
     pub fn kept<const N: usize>(&self, search: &mut Search<N>) -> bool {
-        (0..self.game.size()).all(|position| {
-            let own = u32::from(self.game.colour(position)) % 2 == self.winner(position);
-            self.stays(position) && (own || !self.returns(position, search))
-        })
+        (0..self.game.size()).all(|position| self.keeps(position, search))
     }
 }

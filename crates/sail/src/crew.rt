@@ -1,5 +1,6 @@
 use super::orders::{Order, Orders};
 use drawn::Drawn;
+use drawn::limits::MOST_VERTICES;
 use helm::{Turn, hear, steer};
 use std::io;
 
@@ -8,15 +9,18 @@ use std::io;
 pub struct Crew<'a> {
     pub rt: &'a HostRuntime,
     pub chart: &'a Drawn,
-    pub plan: [u16; 128],
+    pub plan: [u16; MOST_VERTICES],
     pub tally: [u64; 4],
 }
 
 impl<'a> Crew<'a> {
     /// Makes the calls that the orders tell, until they end or fail. The turn
     /// comes back either way, so that the voyage can be finished.
-    pub fn make_calls(&mut self, turn: Turn, orders: &mut Orders) -> (Turn, anyhow::Result<()>) {
-        let mut turn = turn;
+    pub fn make_calls(
+        &mut self,
+        mut turn: Turn,
+        orders: &mut Orders,
+    ) -> (Turn, anyhow::Result<()>) {
         for _ in 0..u64::MAX {
             let order = match orders.call() {
                 Ok(Some(order)) => order,

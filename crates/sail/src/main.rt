@@ -3,6 +3,7 @@
 use anyhow::Context;
 use crew::Crew;
 use drawn::Drawn;
+use drawn::limits::MOST_VERTICES;
 use helm::{begin, finish};
 use intake::{MOST_BYTES, fill};
 use orders::Orders;
@@ -36,7 +37,7 @@ fn sail(rt: &HostRuntime, chart: &Drawn) -> anyhow::Result<()> {
     let mut orders = Orders::open(rt, path.as_str())?;
     let start = orders.start()?;
     let plan = orders.plan()?;
-    let marks = [1u8; 128];
+    let marks = [1u8; MOST_VERTICES];
     let mut tally = [0u64; 4];
     match begin(chart, &marks, &mut tally, start) {
         Ok((turn, slip)) => {

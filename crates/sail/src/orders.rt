@@ -1,7 +1,8 @@
 ghost use Rattle.std.specs.Prelude.{Some};
 ghost use Rattle.sail.specs.Orders.{order_text};
 
-use anyhow::anyhow;
+use anyhow::Context;
+use drawn::limits::MOST_VERTICES;
 use std::alloc::Global;
 use std::fs::File;
 use std::io::{BufRead, BufReader};
@@ -9,7 +10,7 @@ use std::str::FromStr;
 use std::{fmt, fs};
 
 /// The plan's entry where there is no move to make.
-const EMPTY: u16 = 65535;
+const EMPTY: u16 = u16::MAX;
 
 /// One call of the voyage.
 #[derive(Clone, Copy)]
@@ -26,9 +27,9 @@ impl FromStr for Order {
         if order == "steer" {
             return Ok(Order::Steer);
         }
-        let Some(number) = order.strip_prefix("hear=") else {
-            return Err(anyhow!("an order is neither steer nor hear="));
-        };
+        let number = order
+            .strip_prefix("hear=")
+            .context("an order is neither steer nor hear=")?;
         Ok(Order::Hear(number.parse::<usize>()?))
     }
 }
@@ -54,6 +55,7 @@ pub struct Orders {
 }
 
 impl Orders {
+    /// Opens the file of that path.
     pub fn open(rt: &HostRuntime, path: &str) -> anyhow::Result<Orders> {
         let file = BufReader::new(rt.alloc(), fs::open(rt, path)?)?;
         Ok(Orders {
@@ -62,24 +64,30 @@ impl Orders {
         })
     }
 
+    /// The vertex at which the voyage begins.
     pub fn start(&mut self) -> anyhow::Result<usize> {
         let line = self.line()?;
-        let Some(number) = line.as_str().trim().strip_prefix("start=") else {
-            return Err(anyhow!("the orders begin with no start="));
-        };
+        let number = line
+            .as_str()
+            .trim()
+            .strip_prefix("start=")
+            .context("the orders begin with no start=")?;
         Ok(number.parse::<usize>()?)
     }
 
-    pub fn plan(&mut self) -> anyhow::Result<[u16; 128]> {
+    /// The plan, with no move to make where the orders have no entry.
+    pub fn plan(&mut self) -> anyhow::Result<[u16; MOST_VERTICES]> {
         let line = self.line()?;
-        let Some(entries) = line.as_str().trim().strip_prefix("plan=") else {
-            return Err(anyhow!("the second order is no plan="));
-        };
-        let mut plan = [EMPTY; 128];
+        let entries = line
+            .as_str()
+            .trim()
+            .strip_prefix("plan=")
+            .context("the second order is no plan=")?;
+        let mut plan = [EMPTY; MOST_VERTICES];
         for (vertex, entry) in entries.split(',').enumerate() {
-            let Some(planned) = plan.get_mut(vertex) else {
-                return Err(anyhow!("the plan has more entries than a chart has vertices"));
-            };
+            let planned = plan
+                .get_mut(vertex)
+                .context("the plan has more entries than a chart has vertices")?;
             if entry != "-" {
                 *planned = entry.parse::<u16>()?;
             }

@@ -47,7 +47,7 @@ fn fill<G: ParityGame>(game: &G, heads: &mut [u32], sources: &mut [u32]) {
 /// it, and a queue of positions to look at. It only hints; what does not fit is left out, and
 /// nothing that is promised rests on it.
 #[derive(Drop)]
-pub struct Trail<'a> {
+pub(crate) struct Trail<'a> {
     heads: &'a [u32],
     sources: &'a [u32],
     queue: &'a mut [u32],
@@ -57,7 +57,7 @@ pub struct Trail<'a> {
 impl<'a> Trail<'a> {
     /// Notes the moves of the game, in memory of two numbers for each position and one for each
     /// move. The list of a position ends at its head, and begins at the head before.
-    pub fn new<G: ParityGame>(game: &G, memory: &'a mut [u32]) -> Self
+    pub(crate) fn new<G: ParityGame>(game: &G, memory: &'a mut [u32]) -> Self
         requires { 2 * (G.ParityGame.board game.now).size ≤ length memory.old }
     {
         let size = game.size();
@@ -76,7 +76,7 @@ impl<'a> Trail<'a> {
     }
 
     /// The positions from where moves lead to the position.
-    pub fn sources(&self, position: usize) -> &'a [u32] {
+    pub(crate) fn sources(&self, position: usize) -> &'a [u32] {
         let start = match position {
             0 => 0,
             _ => number_at(self.heads, position - 1),
@@ -88,12 +88,12 @@ impl<'a> Trail<'a> {
     }
 
     /// Empties the queue.
-    pub fn clear(&mut self) {
+    pub(crate) fn clear(&mut self) {
         self.end = 0;
     }
 
     /// Appends a position to the queue, if there is room.
-    pub fn push(&mut self, position: u32) {
+    pub(crate) fn push(&mut self, position: u32) {
         if let Some(place) = self.queue.get_mut(self.end) {
             *place = position;
             self.end += 1;
@@ -101,7 +101,7 @@ impl<'a> Trail<'a> {
     }
 
     /// The position at a place of the queue, if the queue reaches so far.
-    pub fn queued(&self, place: usize) -> Option<u32> {
+    pub(crate) fn queued(&self, place: usize) -> Option<u32> {
         self.queue.get(..self.end)?.get(place).copied()
     }
 }
