@@ -58,9 +58,12 @@ pub fn waiting_height<C: Chart>(chart: &C) -> u8
 pub fn locate<C: Chart>(chart: &C, number: usize) -> Option<Position<usize>>
     ensures { result ≡ located (C.Chart.meaning chart.now) number }
 {
+    if number >= waiting_size(chart) {
+        return None;
+    }
     let levels = levels(chart);
     let pair = number / 2;
-    (number < waiting_size(chart)).then(|| Position {
+    Some(Position {
         below: pair / levels,
         level: (pair % levels) as u8,
         stage: (number % 2) as u8,
