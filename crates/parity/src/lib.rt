@@ -1,6 +1,6 @@
 #![tactic(auto)]
 
-ghost use Rattle.std.specs.Prelude.{◌≡◌};
+ghost use Rattle.std.specs.Prelude.{◌≡◌, ◌%◌};
 ghost use Rattle.chart.specs.Players.{numbered};
 ghost use Rattle.parity.specs.Boards.{Board, Ranged};
 
@@ -41,4 +41,15 @@ pub trait ParityGame {
         ensures { result ≡ (board self.now).game.target position number };
 
     ghost ranged: { (c : Self) → Ranged (board c) };
+}
+
+/// The player for whom a colour is good that comes again and again.
+pub fn favoured(colour: u32) -> Player
+    ensures { numbered result ≡ colour % 2 }
+{
+    if colour % 2 == 0 {
+        Player::Controller
+    } else {
+        Player::Harbour
+    }
 }

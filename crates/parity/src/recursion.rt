@@ -1,22 +1,7 @@
-ghost use Rattle.std.specs.Prelude.{◌≡◌, ◌%◌};
-ghost use Rattle.chart.specs.Players.{numbered};
-
-use super::ParityGame;
 use super::attractor::Attractor;
 use super::trail::Trail;
 use super::workspace::Workspace;
-use chart::Player;
-
-/// The player for whom a colour is good that comes again and again.
-fn favoured(colour: u32) -> Player
-    ensures { numbered result ≡ colour % 2 }
-{
-    if colour % 2 == 0 {
-        Player::Controller
-    } else {
-        Player::Harbour
-    }
-}
+use super::{ParityGame, favoured};
 
 impl<'a, G: ParityGame> Workspace<'a, G> {
     ghost use Rattle.parity.specs.Solving.{Region, Solved};

@@ -1,7 +1,7 @@
 ghost use Rattle.std.specs.Prelude.{◌≡◌, slice_index};
 
 use chart::Player;
-use parity::ParityGame;
+use parity::{ParityGame, favoured};
 use parity_games::put;
 
 /// What stands at a place of the table, and 0 past its end.
@@ -9,15 +9,6 @@ pub fn get(table: &[u32], place: usize) -> u32
     ensures { result ≡ slice_index table.now place }
 {
     table.get(place).copied().unwrap_or(0)
-}
-
-/// The player for whom a colour is good that comes again and again.
-pub fn favoured(colour: u8) -> Player {
-    if colour % 2 == 0 {
-        Player::Controller
-    } else {
-        Player::Harbour
-    }
 }
 
 /// Guesses at who wins each position of a game: the player of its colour, or the other where the
@@ -31,7 +22,7 @@ struct Guesses<'a, G: ParityGame> {
 impl<'a, G: ParityGame> Guesses<'a, G> {
     /// Who wins the position as it is guessed so far.
     fn guess(&self, position: usize) -> Player {
-        let player = favoured(self.game.colour(position));
+        let player = favoured(u32::from(self.game.colour(position)));
         match get(self.turned, position) % 2 {
             0 => player,
             _ => player.opponent(),
@@ -55,7 +46,7 @@ impl<'a, G: ParityGame> Guesses<'a, G> {
         for position in 0..self.game.size() {
             if self.game.colour(position) == colour
                 && get(self.turned, position) == 0
-                && !self.speak_for(favoured(colour), position)
+                && !self.speak_for(favoured(u32::from(colour)), position)
             {
                 put(self.turned, position, 1);
                 some = true;

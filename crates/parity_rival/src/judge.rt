@@ -1,6 +1,6 @@
-use super::fixpoint::{favoured, get};
+use super::fixpoint::get;
 use chart::Player;
-use parity::ParityGame;
+use parity::{ParityGame, favoured};
 use parity_games::put;
 
 /// A search among at most N positions: the sign of the last search that met each, and the queue of
@@ -125,7 +125,7 @@ impl<'a, G: ParityGame> Verdict<'a, G> {
             return false;
         };
         self.stays(player, position)
-            && (favoured(self.game.colour(position)) == player
+            && (favoured(u32::from(self.game.colour(position))) == player
                 || !self.returns(player, position, search))
     }
 
