@@ -1,9 +1,9 @@
 -- What a question answers, and what stands past the ends.
-use Rattle.std.proofs.Common.{◌≡◌, ℕ, zero, suc, List, [], ◌∷◌, get_or, Some, None, Option, unwrap_or, sym, refl, ap, ◌∙◌, arith}
+use Rattle.std.proofs.Common.{◌≡◌, ℕ, zero, suc, List, [], ◌∷◌, get_or, Some, None, Option, unwrap_or, sym, refl, ap, ◌∙◌}
 use Rattle.std.specs.Option.{MatchOption, option_map}
-use Rattle.std.specs.List.{slice_get, AllByRecursion}
+use Rattle.std.specs.List.{slice_get}
 use Rattle.std.proofs.lemmas.Option.{unwrap_or-slice_get}
-use Rattle.chart.specs.Arena.{Arena, Vertex, Ranged, RangedVertex, size, and_then, vertex_at}
+use Rattle.chart.specs.Arena.{Arena, Vertex, and_then, vertex_at}
 use Rattle.text.specs.Writing.{vertex_or_none}
 
 value_found : {A B : Type 0} (f : A → B) (xs : List A) (i : ℕ) (d : A) → unwrap_or (option_map f (slice_get xs i)) (f d) ≡ f (get_or xs i d)
@@ -26,13 +26,3 @@ mapped_or f (Some x) r d h = h
 module _ (a : Arena) (v : ℕ) (f : Vertex → ℕ) (r : ℕ) where
   pub asked : (o : Option ℕ) → r ≡ unwrap_or o (f (record { owner = 0; colour = 0; moves = [] })) → o ≡ option_map f (vertex_at a v) → r ≡ f (vertex_or_none a v)
   asked o is from = is ∙ ap (λ p. unwrap_or p (f (record { owner = 0; colour = 0; moves = [] }))) from ∙ value_found f a.vertices v (record { owner = 0; colour = 0; moves = [] })
-
--- what holds of each element and of the one past the end
-all_or_none : {A : Type 0} (P : A → Type 0) (xs : List A) (i : ℕ) (d : A) → P d → AllByRecursion P xs → P (get_or xs i d)
-all_or_none P [] i d none all = none
-all_or_none P (x ∷ xs) zero d none all = all.0
-all_or_none P (x ∷ xs) (suc i) d none all = all_or_none P xs i d none all.1
-
-pub vertex_ranged : (a : Arena) → Ranged a → (v : ℕ) → RangedVertex (size a) a.height (vertex_or_none a v)
-vertex_ranged a ranged v = all_or_none (RangedVertex (size a) a.height) a.vertices v (record { owner = 0; colour = 0; moves = [] })
-    (record { owner = omega arith; colour = omega arith; few = omega arith; moves = tt }) ranged.vertices

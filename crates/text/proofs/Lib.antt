@@ -2,6 +2,7 @@ pub mod Numerals
 pub mod Fields
 pub mod Steps
 pub mod Putting
+pub mod Lengths
 pub mod Absent
 pub mod OneWay
 pub mod ReadBack

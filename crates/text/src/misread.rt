@@ -2,7 +2,7 @@ use chart::Refusal;
 use std::fmt;
 
 /// Why a text was not read: the refusal, and the line that it is about, counted from 1.
-#[derive(Clone, Copy, PartialEq, Debug)]
+#[derive(Clone, Copy, PartialEq, Eq, Debug)]
 pub struct Misread {
     pub line: usize,
     pub refusal: Refusal,

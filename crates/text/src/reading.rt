@@ -65,8 +65,7 @@ fn draw_vertices<'a>(
         (λ e. Reads (refused (number_of e.refusal) e.line) (sheet chart.old) (vertex_due count) line text.now) }
 {
     let mut rest = text;
-    for done in 0..count {
-        let here = line + done as usize;
+    for here in line..line + count as usize {
         let Some(vertex) = numbers_line::<2>(rest, b"vertex=") else {
             return Err(wrong_line(here));
         };
@@ -94,8 +93,7 @@ fn draw_moves<'a>(
 {
     let mut rest = text;
     let mut low = 0;
-    for done in 0..count {
-        let here = line + done as usize;
+    for here in line..line + count as usize {
         let Some(step) = numbers_line::<3>(rest, b"move=") else {
             return Err(wrong_line(here));
         };

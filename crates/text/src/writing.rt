@@ -1,9 +1,10 @@
-ghost use Rattle.std.specs.Prelude.{◌≡◌, ◌+◌, ◌^◌, ◌<◌, ◌≤◌, ◌++◌, map, length, decimal};
+ghost use Rattle.std.specs.Prelude.{◌≡◌, ◌++◌, map, length, decimal};
 ghost use Rattle.std.specs.List.{flat_map};
 ghost use Rattle.chart.specs.Refusals.{outcome};
 ghost use Rattle.drawn.specs.Meaning.{sheet};
 ghost use Rattle.text.specs.Lines.{spelt, numbers_spelt};
 ghost use Rattle.text.specs.Writing.{Adds, vertex_line, move_line, move_lines, text_of, write_outcome, written, vertex_or_none, move_or_none};
+ghost use Rattle.text.specs.Pages.{Puts};
 
 use super::lines::end_behind;
 use chart::{Chart, Move, Refusal};
@@ -26,48 +27,84 @@ pub fn write(chart: &Drawn, out: &mut [u8]) -> Result<usize, Refusal>
 fn spell(chart: &Drawn, out: &mut [u8]) -> usize
     ensures { Adds (text_of (sheet chart.now)) out.old 0 out.new result }
 {
-    let at = put_line(out, 0, b"vertices=", &[chart.size()]);
-    let at = put_vertices(chart, out, at);
-    let at = put_line(out, at, b"moves=", &[chart.move_count()]);
-    put_moves(chart, out, at)
+    let mut page = Page { out, at: 0 };
+    page.line(b"vertices=", &[chart.size()]);
+    page.vertices(chart);
+    page.line(b"moves=", &[chart.move_count()]);
+    page.moves(chart);
+    page.at
 }
 
-fn put_vertices(chart: &Drawn, out: &mut [u8], start: usize) -> usize
-    requires { start ≤ 100 }
-    ensures adds { Adds (flat_map spelt (map vertex_line (sheet chart.now).vertices)) out.old start out.new result }
-    ensures low { result ≤ 20000 }
-{
-    let mut at = start;
-    for vertex in 0..chart.size() {
-        let owner = owner_number(chart, vertex);
-        let colour = colour_number(chart, vertex);
-        at = put_line(out, at, b"vertex=", &[owner, colour]);
-    }
-    at
+/// Bytes that are filled from the front, and where the next would stand: behind all that was put so
+/// far, whether it fitted or not.
+#[derive(Drop)]
+struct Page<'a> {
+    out: &'a mut [u8],
+    at: usize,
 }
 
-fn put_moves(chart: &Drawn, out: &mut [u8], start: usize) -> usize
-    requires { start ≤ 30000 }
-    ensures { Adds (flat_map spelt (move_lines 0 (sheet chart.now).vertices)) out.old start out.new result }
-{
-    let mut at = start;
-    for vertex in 0..chart.size() {
-        at = put_moves_of(chart, out, at, vertex);
+impl<'a> Page<'a> {
+    /// Puts the line of each vertex.
+    fn vertices(&mut self, chart: &Drawn)
+        ensures { Puts (flat_map spelt (map vertex_line (sheet chart.now).vertices)) self.old self.new }
+    {
+        for vertex in 0..chart.size() {
+            let owner = owner_number(chart, vertex);
+            let colour = colour_number(chart, vertex);
+            self.line(b"vertex=", &[owner, colour]);
+        }
     }
-    at
-}
 
-fn put_moves_of(chart: &Drawn, out: &mut [u8], start: usize, vertex: usize) -> usize
-    requires { start ≤ 20000000 }
-    ensures adds { Adds (flat_map spelt (map (move_line vertex) (vertex_or_none (sheet chart.now) vertex).moves)) out.old start out.new result }
-    ensures few { result ≤ start + 102400 }
-{
-    let mut at = start;
-    for number in 0..chart.degree(vertex).unwrap_or(0) {
-        let Move { target, cost } = move_or_none(chart, vertex, number);
-        at = put_line(out, at, b"move=", &[vertex, target, cost as usize]);
+    /// Puts the lines of the moves, vertex by vertex.
+    fn moves(&mut self, chart: &Drawn)
+        ensures { Puts (flat_map spelt (move_lines 0 (sheet chart.now).vertices)) self.old self.new }
+    {
+        for vertex in 0..chart.size() {
+            self.moves_of(chart, vertex);
+        }
     }
-    at
+
+    /// Puts the lines of one vertex's moves.
+    fn moves_of(&mut self, chart: &Drawn, vertex: usize)
+        ensures { Puts (flat_map spelt (map (move_line vertex) (vertex_or_none (sheet chart.now) vertex).moves)) self.old self.new }
+    {
+        for number in 0..chart.degree(vertex).unwrap_or(0) {
+            let Move { target, cost } = move_or_none(chart, vertex, number);
+            self.line(b"move=", &[vertex, target, cost as usize]);
+        }
+    }
+
+    /// Puts a line of a word and numbers.
+    fn line(&mut self, word: &[u8], numbers: &[usize])
+        ensures { Puts (word.now ++ numbers_spelt numbers.now) self.old self.new }
+    {
+        self.put(word);
+        for (place, number) in numbers.iter().enumerate() {
+            self.number(*number);
+            self.put(&[end_behind(numbers.len() - 1 - place)]);
+        }
+    }
+
+    /// Puts a number in decimal.
+    fn number(&mut self, number: usize)
+        ensures { Puts (decimal number) self.old self.new }
+    {
+        if number >= 10 {
+            self.number(number / 10);
+        }
+        self.put(&[b'0' + (number % 10) as u8]);
+    }
+
+    /// Puts bytes if they fit, and counts them in any case.
+    fn put(&mut self, bytes: &[u8])
+        ensures { Puts bytes.now self.old self.new }
+    {
+        let end = self.at.saturating_add(bytes.len());
+        if end <= self.out.len() {
+            self.out[self.at..end].copy_from_slice(bytes);
+        }
+        self.at = end;
+    }
 }
 
 /// The number of a vertex's owner, 0 for an absent vertex.
@@ -90,47 +127,4 @@ fn move_or_none(chart: &Drawn, vertex: usize, number: usize) -> Move
 {
     let none = Move { target: 0, cost: 0 };
     chart.move_at(vertex, number).unwrap_or(none)
-}
-
-/// Puts a line of a word and numbers.
-fn put_line(out: &mut [u8], start: usize, word: &[u8], numbers: &[usize]) -> usize
-    requires short { (length word.now ≤ 10) × (length numbers.now ≤ 3) }
-    requires low { start ≤ 100000000 }
-    ensures adds { Adds (word.now ++ numbers_spelt numbers.now) out.old start out.new result }
-    ensures few { result ≤ start + 100 }
-{
-    let mut at = put(out, start, word);
-    for (place, number) in numbers.iter().enumerate() {
-        at = put_number(out, at, *number);
-        at = put(out, at, &[end_behind(numbers.len() - 1 - place)]);
-    }
-    at
-}
-
-/// Puts a number in decimal.
-fn put_number(out: &mut [u8], at: usize, number: usize) -> usize
-    requires { at ≤ 200000000 }
-    ensures end { result ≡ at + length (decimal number) }
-    ensures few { result ≤ at + 20 }
-    ensures adds { Adds (decimal number) out.old at out.new result }
-{
-    let front = if number >= 10 {
-        put_number(out, at, number / 10)
-    } else {
-        at
-    };
-    put(out, front, &[b'0' + (number % 10) as u8])
-}
-
-/// Puts bytes at `at` if they fit there, and answers where they end.
-fn put(out: &mut [u8], at: usize, bytes: &[u8]) -> usize
-    requires { at + length bytes.now < 2 ^ 64 }
-    ensures end { result ≡ at + length bytes.now }
-    ensures adds { Adds bytes.now out.old at out.new result }
-{
-    let end = at + bytes.len();
-    if end <= out.len() {
-        out[at..end].copy_from_slice(bytes);
-    }
-    end
 }

@@ -43,6 +43,7 @@ pub fn accepted(text: &[u8], vertices: usize, moves: usize) -> Result<(), Fail> 
     written_back(&chart, text)
 }
 
+/// The chart is written as the text, and the byte behind it is left as it stood.
 pub fn written_back(chart: &Drawn, text: &[u8]) -> Result<(), Fail> {
     let mut out = [7u8; 24000];
     let length = write(chart, &mut out)?;

@@ -6,23 +6,33 @@ use std::alloc::{AllocError, Global};
 use std::test::Fail;
 use text::read;
 
+/// Adds a heading with its count, and the line that often.
+fn add_lines(
+    heap: Global,
+    text: &mut Vec<u8>,
+    heading: &str,
+    count: usize,
+    line: &[u8],
+) -> Result<(), AllocError> {
+    let heading = format!(in heap; "{heading}={count}\n")?;
+    text.extend_from_slice(heading.as_bytes())?;
+    for _ in 0..count {
+        text.extend_from_slice(line)?;
+    }
+    Ok(())
+}
+
+/// The text of so many vertices, up to where its moves begin.
 fn with_vertices(heap: Global, count: usize) -> Result<Vec<u8>, AllocError> {
     let mut text = Vec::new(heap);
-    let first = format!(in heap; "vertices={count}\n")?;
-    text.extend_from_slice(first.as_bytes())?;
-    for _ in 0..count {
-        text.extend_from_slice(b"vertex=1,8\n")?;
-    }
+    add_lines(heap, &mut text, "vertices", count, b"vertex=1,8\n")?;
     Ok(text)
 }
 
+/// The text of 128 vertices and so many moves.
 fn with_moves(heap: Global, count: usize) -> Result<Vec<u8>, AllocError> {
     let mut text = with_vertices(heap, 128)?;
-    let first = format!(in heap; "moves={count}\n")?;
-    text.extend_from_slice(first.as_bytes())?;
-    for _ in 0..count {
-        text.extend_from_slice(b"move=100,127,10000\n")?;
-    }
+    add_lines(heap, &mut text, "moves", count, b"move=100,127,10000\n")?;
     Ok(text)
 }
 
