@@ -13,7 +13,7 @@ use std::{fmt, fs};
 const EMPTY: u16 = u16::MAX;
 
 /// One call of the voyage.
-#[derive(Clone, Copy)]
+#[derive(Clone, Copy, PartialEq, Eq, Debug)]
 pub enum Order {
     Steer,
     Hear(usize),

@@ -4,7 +4,7 @@ use chart::Chart;
 use std::test::Fail;
 use waiting::{Waiting, find_position, locate, position_name, position_number, position_owner};
 
-const FAR: usize = 18_446_744_073_709_551_615;
+const FAR: usize = usize::MAX;
 
 /// Every question about the vertex is answered by `None`.
 fn about_absent_vertex<C: Chart>(chart: &C, vertex: usize) -> Result<(), Fail> {
