@@ -3,8 +3,9 @@ use Rattle.std.specs.Prelude.{◌≡◌, ℕ, ◌+◌, ◌^◌, ◌<◌, ◌≤�
 use Rattle.text.specs.declared.writing.Page.{Page}
 use Rattle.text.specs.Writing.{Adds}
 
--- The page a becomes b when these bytes are put. It lends the same room. It ends by their length
--- later, or at the greatest number where none is so great; before that the bytes stand where they fit.
+-- What becomes of a page where these bytes are put. It lends the same bytes of the caller's. The next
+-- bytes stand so much further on, or at the greatest number where that is none any more; and where it
+-- is one, the bytes that were put stand there if they fit.
 pub record Puts (bytes : List ℕ) (a b : Page) : Type 0 where
   pub same : b.out.ghost_name ≡ a.out.ghost_name
   pub end : a.at + length bytes < 2 ^ 64 → b.at ≡ a.at + length bytes
