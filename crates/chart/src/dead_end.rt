@@ -7,7 +7,7 @@ use super::Chart;
 pub fn lowest_dead_end<C: Chart>(chart: &C) -> Option<usize>
     ensures { result ≡ lowest_dead_end (C.Chart.meaning chart.now) }
 {
-    // A loop, not `find`: what a closure that asks the chart answers is out of the proof's reach.
+    // A loop, not `find`: a closure that asks the chart would need a contract of its own.
     for vertex in 0..chart.size() {
         if chart.degree(vertex) == Some(0) {
             return Some(vertex);

@@ -45,8 +45,7 @@ impl<'a, G: ParityGame> Workspace<'a, G> {
           | None ↦ Leaks (board_of self.now).game (numbered attractor.player) attractor.mark (sheet_of self.now).tag position
         ] }
     {
-        // Loops, not `find` and `all`: what a closure that asks the game answers is out of the proof's
-        // reach.
+        // Loops, not `find` and `all`: a closure that asks the game would need a contract of its own.
         let degree = self.game.degree(position);
         if self.game.owner(position) == attractor.player {
             for ours in 0..degree {

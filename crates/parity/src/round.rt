@@ -14,7 +14,7 @@ impl<'a, G: ParityGame> Workspace<'a, G> {
         requires { position < length self.now.tags.now }
         ensures { Stays (board_of self.now).game mark (sheet_of self.now).tag position result }
     {
-        // A loop, not `find`: what a closure that asks the game answers is out of the proof's reach.
+        // A loop, not `find`: a closure that asks the game would need a contract of its own.
         for number in 0..self.game.degree(position) {
             if self.end_tag(position, number) <= mark {
                 return number as u32;
@@ -82,7 +82,7 @@ impl<'a, G: ParityGame> Workspace<'a, G> {
         ensures moves { self.new.moves.now ≡ self.old.moves.now }
     {
         let mut some = false;
-        // By index: zipped with the winners, the tags are out of the proof's reach.
+        // By index: zipped with the winners, the proof has no name for what becomes of the tags.
         for position in 0..self.tags.len() {
             if self.tags[position] < mark && self.winners[position] == u32::from(other) {
                 self.tags[position] = mark + 1;

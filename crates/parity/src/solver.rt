@@ -14,7 +14,7 @@ const MEMORY: usize = 8;
 fn dead_end<G: ParityGame>(game: &G) -> Option<usize>
     ensures { result ≡ dead_end (G.ParityGame.board game.now) }
 {
-    // A loop, not `find`: what a closure that asks the game answers is out of the proof's reach.
+    // A loop, not `find`: a closure that asks the game would need a contract of its own.
     for position in 0..game.size() {
         if game.degree(position) == 0 {
             return Some(position);
