@@ -1,19 +1,19 @@
 #![tactic(auto)]
 
-use parity::rows::Rows;
 use parity::solver::solve;
-use parity_games::{FAMILIES, Family, MOST, Plan, Room};
+use parity_games::{FAMILIES, Family, GameTables, MOST, Plan, Room};
 use std::time::Instant;
 use std::{env, io};
 
 /// Solves the game of the plan, and prints what player 0 wins, with the time taken if it is asked
 /// for.
-fn measure(rt: &HostRuntime, plan: &Plan, game: &Rows<'_>, timed: bool) -> io::Result<()> {
+fn measure(rt: &HostRuntime, plan: &Plan, tables: GameTables<'_>, timed: bool) -> io::Result<()> {
+    let game = plan.lay(tables);
     let mut winners = [7; MOST];
     let mut moves = [7; MOST];
     let mut memory = [7; 8 * MOST];
     let start = Instant::now(rt)?;
-    let solved = solve(game, &mut winners, &mut moves, &mut memory).is_ok();
+    let solved = solve(&game, &mut winners, &mut moves, &mut memory).is_ok();
     let micros = start.elapsed(rt)?.as_micros();
     let family = plan.family;
     let order = if plan.shuffled {
@@ -43,7 +43,7 @@ fn measure(rt: &HostRuntime, plan: &Plan, game: &Rows<'_>, timed: bool) -> io::R
 fn bench(rt: &HostRuntime, plan: &Plan, timed: bool) -> io::Result<()> {
     let mut room = Room::EMPTY;
     match room.tables(plan.size) {
-        Some(tables) => measure(rt, plan, &plan.lay(tables), timed),
+        Some(tables) => measure(rt, plan, tables, timed),
         None => Ok(()),
     }
 }
