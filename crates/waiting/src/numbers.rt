@@ -26,14 +26,14 @@ pub fn toll(cost: u32) -> u8
 }
 
 /// The colour of a position that does not show its vertex's colour: a toll, or a level at which nothing waits.
-pub(crate) fn signal(height: u8, position: Position<usize>) -> u8
+pub(crate) fn signal(height: u8, level: u8, stage: u8) -> u8
     requires low { height ≤ 28 }
-    requires unshown { position.stage ≡ 0 → position.level ≡ 0 }
-    ensures { result ≡ tint height 0 position.level position.stage }
+    requires unshown { stage ≡ 0 → level ≡ 0 }
+    ensures { result ≡ tint height 0 level stage }
 {
-    if position.stage == 0 {
+    if stage == 0 {
         height + 2
-    } else if position.level == 0 {
+    } else if level == 0 {
         0
     } else {
         height + 1

@@ -113,7 +113,7 @@ pub fn position_colour<C: Chart>(chart: &C, number: usize) -> Option<u8>
     if position.stage == 0 && position.level > 0 {
         chart.colour(position.below)
     } else {
-        Some(signal(chart.height(), position))
+        Some(signal(chart.height(), position.level, position.stage))
     }
 }
 
