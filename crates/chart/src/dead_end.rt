@@ -9,7 +9,7 @@ pub fn lowest_dead_end<C: Chart>(chart: &C) -> Option<usize>
 {
     // A loop, not `find`: a closure that asks the chart would need a contract of its own.
     for vertex in 0..chart.size() {
-        if chart.degree(vertex) == Some(0) {
+        if chart.degree(vertex)? == 0 {
             return Some(vertex);
         }
     }

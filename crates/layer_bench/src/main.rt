@@ -19,7 +19,20 @@ mod times;
 /// argument `time`, how long a question took.
 fn main(rt: HostRuntime) -> io::Result<()> {
     let timing = timing(&rt)?;
-    let charts = Charts::full();
+    let drawn = full_chart();
+    let one = Waiting {
+        below: full_chart(),
+    };
+    let two = Waiting {
+        below: Waiting {
+            below: full_chart(),
+        },
+    };
+    let charts = Charts {
+        drawn: &drawn,
+        one: &one,
+        two: &two,
+    };
     put::<Size>(&rt, &charts, timing)?;
     put::<Owner>(&rt, &charts, timing)?;
     put::<Colour>(&rt, &charts, timing)?;
@@ -32,28 +45,13 @@ fn timing(rt: &HostRuntime) -> io::Result<bool> {
     Ok(env::args(rt)?.any(|word| word.as_str() == "time"))
 }
 
-/// The charts that are asked, without a layer and under one and two.
-#[derive(Drop)]
-struct Charts {
-    drawn: Drawn,
-    one: Waiting<Drawn>,
-    two: Waiting<Waiting<Drawn>>,
-}
-
-impl Charts {
-    fn full() -> Charts {
-        Charts {
-            drawn: full_chart(),
-            one: Waiting {
-                below: full_chart(),
-            },
-            two: Waiting {
-                below: Waiting {
-                    below: full_chart(),
-                },
-            },
-        }
-    }
+/// The charts that are asked, without a layer and under one and two. They are lent: held here, they
+/// are copied once more, and the program needs a third more stack.
+#[derive(Clone, Copy)]
+struct Charts<'a> {
+    drawn: &'a Drawn,
+    one: &'a Waiting<Drawn>,
+    two: &'a Waiting<Waiting<Drawn>>,
 }
 
 /// A refusal here would show in what is printed.
@@ -68,13 +66,13 @@ fn full_chart() -> Drawn {
     chart
 }
 
-fn put<Q: Question>(rt: &HostRuntime, charts: &Charts, timing: bool) -> io::Result<()> {
+fn put<Q: Question>(rt: &HostRuntime, charts: &Charts<'_>, timing: bool) -> io::Result<()> {
     if timing {
         return print_times::<Q>(rt, charts);
     }
-    print_answers::<Q, _>(rt, &charts.drawn)?;
-    print_answers::<Q, _>(rt, &charts.one)?;
-    print_answers::<Q, _>(rt, &charts.two)
+    print_answers::<Q, _>(rt, charts.drawn)?;
+    print_answers::<Q, _>(rt, charts.one)?;
+    print_answers::<Q, _>(rt, charts.two)
 }
 
 fn print_answers<Q: Question, C: Chart>(rt: &HostRuntime, chart: &C) -> io::Result<()> {
@@ -87,17 +85,17 @@ fn print_answers<Q: Question, C: Chart>(rt: &HostRuntime, chart: &C) -> io::Resu
     )
 }
 
-fn print_times<Q: Question>(rt: &HostRuntime, charts: &Charts) -> io::Result<()> {
+fn print_times<Q: Question>(rt: &HostRuntime, charts: &Charts<'_>) -> io::Result<()> {
     let in_order = [
-        time_in_order::<Q, _>(rt, &charts.drawn)?,
-        time_in_order::<Q, _>(rt, &charts.one)?,
-        time_in_order::<Q, _>(rt, &charts.two)?,
+        time_in_order::<Q, _>(rt, charts.drawn)?,
+        time_in_order::<Q, _>(rt, charts.one)?,
+        time_in_order::<Q, _>(rt, charts.two)?,
     ];
     print_ratio::<Q>(rt, "in order", in_order)?;
     let in_turn = [
-        time_in_turn::<Q, _>(rt, &charts.drawn)?,
-        time_in_turn::<Q, _>(rt, &charts.one)?,
-        time_in_turn::<Q, _>(rt, &charts.two)?,
+        time_in_turn::<Q, _>(rt, charts.drawn)?,
+        time_in_turn::<Q, _>(rt, charts.one)?,
+        time_in_turn::<Q, _>(rt, charts.two)?,
     ];
     print_ratio::<Q>(rt, "in turn", in_turn)
 }

@@ -14,14 +14,14 @@ pub(crate) struct Attractor {
     pub(crate) mark: u32,
 }
 
-/// Whether two players are one. Matched here, where it is compiled into the loops that ask it: `==`
-/// is a call into another crate, and made some games take twice as long.
-fn is_same(first: Player, second: Player) -> bool
-    ensures { IsTrue result ↔ (numbered first ≡ numbered second) }
+/// Whether the number is the player's. A match, since the solver's loops ask it and it is compiled
+/// into them: as `==`, a call into another crate, it made some games take twice as long.
+fn is_number_of(player: Player, number: u8) -> bool
+    ensures { IsTrue result ↔ (number ≡ numbered player) }
 {
-    match (first, second) {
-        (Player::Controller, Player::Controller) | (Player::Harbour, Player::Harbour) => true,
-        _ => false,
+    match player {
+        Player::Controller => number == 0,
+        Player::Harbour => number == 1,
     }
 }
 
@@ -59,7 +59,7 @@ impl<'a, G: ParityGame> Workspace<'a, G> {
     {
         // Loops, not `find` and `all`: a closure that asks the game would need a contract of its own.
         let degree = self.game.degree(position);
-        if is_same(self.game.owner(position), attractor.player) {
+        if is_number_of(attractor.player, self.game.owner(position)) {
             for ours in 0..degree {
                 if self.end_tag(position, ours) == attractor.mark {
                     return Some(ours as u32);
@@ -128,9 +128,10 @@ impl<'a, G: ParityGame> Workspace<'a, G> {
         ensures chased { Chased (board_of self.old) (numbered attractor.player) attractor.mark
             (sheet_of self.old) (sheet_of self.new) }
     {
-        for source in trail.sources(position) {
-            if self.try_in(attractor, *source as usize) {
-                trail.push(*source);
+        for place in trail.list(position) {
+            let source = trail.source(place);
+            if self.try_in(attractor, source as usize) {
+                trail.push(source);
             }
         }
     }

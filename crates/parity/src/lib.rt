@@ -24,9 +24,9 @@ pub trait ParityGame {
     fn size(&self) -> usize
         ensures { result ≡ (board self.now).size };
 
-    /// Who moves at the position.
-    fn owner(&self, position: usize) -> Player
-        ensures { numbered result ≡ (board self.now).game.owner position };
+    /// Who moves at the position: 0 or 1.
+    fn owner(&self, position: usize) -> u8
+        ensures { result ≡ (board self.now).game.owner position };
 
     /// The colour of the position.
     fn colour(&self, position: usize) -> u8

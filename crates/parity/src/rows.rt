@@ -3,7 +3,6 @@ ghost use Rattle.parity.specs.Tables.{tabled};
 ghost use Rattle.parity.specs.ClipsRanged.{clip_ranged};
 
 use super::ParityGame;
-use chart::Player;
 
 /// The most positions that plain tables can hold.
 const LIMIT: usize = 65536;
@@ -34,10 +33,10 @@ impl<'a> ParityGame for Rows<'a> {
         self.owners.len().min(LIMIT)
     }
 
-    fn owner(&self, position: usize) -> Player {
+    fn owner(&self, position: usize) -> u8 {
         match self.owners.get(position) {
-            None | Some(0) => Player::Controller,
-            Some(_) => Player::Harbour,
+            None | Some(0) => 0,
+            Some(_) => 1,
         }
     }
 

@@ -2,6 +2,7 @@ ghost use Rattle.std.specs.Prelude.{◌*◌, ◌≤◌, length};
 
 use super::ParityGame;
 use super::rows::number_at;
+use std::ops::Range;
 
 /// Writes into the table, unless the place lies past its end.
 fn put(table: &mut [u32], place: usize, value: u32) {
@@ -44,8 +45,8 @@ fn fill<G: ParityGame>(game: &G, heads: &mut [u32], sources: &mut [u32]) {
 }
 
 /// Where to look first for what a set draws in: for each position those from where moves lead to
-/// it, and a queue of positions to look at. It only hints; what does not fit is left out, and
-/// nothing that is promised rests on it.
+/// it, and a queue of positions to look at. It only hints; position 0 stands for what does not fit,
+/// and nothing that is promised rests on it.
 #[derive(Drop)]
 pub(crate) struct Trail<'a> {
     heads: &'a [u32],
@@ -75,16 +76,26 @@ impl<'a> Trail<'a> {
         }
     }
 
-    /// The positions from where moves lead to the position.
-    pub(crate) fn sources(&self, position: usize) -> &'a [u32] {
+    /// The places at which the positions are noted from where moves lead to the position: those
+    /// that fitted, and one place past them all if some did not. A list that is cut is followed as
+    /// far as it goes, and then at position 0: left out whole, some games took time by their square.
+    pub(crate) fn list(&self, position: usize) -> Range<usize> {
         let start = match position {
             0 => 0,
-            _ => number_at(self.heads, position - 1),
+            _ => number_at(self.heads, position - 1) as usize,
         };
-        let end = number_at(self.heads, position);
-        self.sources
-            .get(start as usize..end as usize)
-            .unwrap_or(&[])
+        let end = number_at(self.heads, position) as usize;
+        let fitted = self.sources.len();
+        if start < end {
+            start.min(fitted)..end.min(fitted + 1)
+        } else {
+            0..0
+        }
+    }
+
+    /// The position noted at a place, and 0 past them all.
+    pub(crate) fn source(&self, place: usize) -> u32 {
+        number_at(self.sources, place)
     }
 
     /// Empties the queue.

@@ -22,9 +22,8 @@ fn measure(rt: &HostRuntime, plan: &Plan, tables: GameTables<'_>, timed: bool) -
         "in order"
     };
     let size = game.owners.len();
-    print!(rt; "{family:?}, {order}: {size} positions, ")?;
     if !solved {
-        return println!(rt; "refused");
+        return println!(rt; "{family:?}, {order}: {size} positions, refused");
     }
     let moves_laid = game.targets.len();
     let won = winners
@@ -32,11 +31,16 @@ fn measure(rt: &HostRuntime, plan: &Plan, tables: GameTables<'_>, timed: bool) -
         .take(size)
         .filter(|winner| **winner == 0)
         .count();
-    print!(rt; "{moves_laid} moves, player 0 wins {won}")?;
+    // A line is written whole.
     if timed {
-        print!(rt; ", {micros} microseconds")?;
+        println!(rt;
+            "{family:?}, {order}: {size} positions, {moves_laid} moves, player 0 wins {won}, {micros} microseconds"
+        )
+    } else {
+        println!(rt;
+            "{family:?}, {order}: {size} positions, {moves_laid} moves, player 0 wins {won}"
+        )
     }
-    println!(rt; "")
 }
 
 /// Measures one game, unless it has more positions than there is room for.

@@ -101,6 +101,21 @@ mod tests {
     }
 
     #[test]
+    fn more_moves_than_are_noted(rt: HostRuntime) -> Result<(), Fail> {
+        let tables = solved(
+            &[0, 0, 0, 0],
+            &[1, 1, 0, 2],
+            &[0, 3, 9, 15, 21],
+            &[
+                2, 3, 1, 0, 1, 2, 2, 0, 1, 1, 3, 0, 1, 3, 3, 3, 3, 2, 0, 3, 1,
+            ],
+        )?;
+        assert_eq!(rt; tables.winners, [0, 0, 0, 0]);
+        assert_eq!(rt; tables.moves, [1, 0, 1, 0]);
+        Ok(())
+    }
+
+    #[test]
     fn one_colour(rt: HostRuntime) -> Result<(), Fail> {
         let even = solved(&[0, 1, 0], &[0, 0, 0], &[0, 1, 2, 3], &[1, 2, 0])?;
         assert_eq!(rt; even.winners, [0, 0, 0, 7]);

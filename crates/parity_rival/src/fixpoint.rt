@@ -32,11 +32,11 @@ impl<'a, G: ParityGame> Guesses<'a, G> {
     /// Whether the guesses one step on speak for the player: a guess for the owner, if it is the
     /// player, and none, if it is the other.
     fn speak_for(&self, player: Player, position: usize) -> bool {
-        let owner = self.game.owner(position);
+        let owner = u32::from(self.game.owner(position));
         let wins = (0..self.game.degree(position))
             .map(|number| self.game.target(position, number))
-            .any(|end| self.guess(end) == owner);
-        wins == (owner == player)
+            .any(|end| u32::from(self.guess(end)) == owner);
+        wins == (owner == u32::from(player))
     }
 
     /// Turns the guesses at positions of the colour that one step on speaks against; says whether

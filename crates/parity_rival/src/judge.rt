@@ -73,7 +73,7 @@ impl<'a, G: ParityGame> Verdict<'a, G> {
     }
 
     fn owns(&self, player: Player, position: usize) -> bool {
-        self.game.owner(position) == player
+        u32::from(self.game.owner(position)) == u32::from(player)
     }
 
     /// Whether the move may be played where the player goes by the verdict: its choice, or any move

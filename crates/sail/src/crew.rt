@@ -51,7 +51,11 @@ impl<'a> Crew<'a> {
                     refusal,
                 ))
             }
-            (_, turn) => return (turn, println!(self.rt; "{order}: out of turn")),
+            // An arm for each: told through the order, it took a third more instructions.
+            (Order::Steer, turn) => return (turn, println!(self.rt; "steer: out of turn")),
+            (Order::Hear(number), turn) => {
+                return (turn, println!(self.rt; "hear={number}: out of turn"));
+            }
         };
         match answer {
             Ok(next) => {

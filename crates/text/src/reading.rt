@@ -1,6 +1,6 @@
 ghost use Rattle.std.specs.Prelude.{◌≡◌, ℕ, zero, ◌+◌, ◌<◌, ◌≤◌, MatchResult};
 ghost use Rattle.chart.specs.Arena.{Arena};
-ghost use Rattle.chart.specs.Refusals.{Outcome, done, refused, number_of};
+ghost use Rattle.chart.specs.Refusals.{Outcome, refused, number_of};
 ghost use Rattle.drawn.specs.Meaning.{sheet};
 ghost use Rattle.drawn.specs.Rules.{blank};
 ghost use Rattle.text.specs.Reading.{Reads, count_due, vertex_due, move_due, told, left};
@@ -15,32 +15,33 @@ pub fn read(chart: &mut Drawn, text: &[u8]) -> Result<(), Misread>
     ensures answer { Reads (told result (sheet chart.new)) blank count_due 1 text.now }
     ensures kept { left result (sheet chart.old) (sheet chart.new) }
 {
-    *chart = draw(text)?;
+    let mut drawn = Drawn::new();
+    draw(&mut drawn, text)?;
+    *chart = drawn;
     Ok(())
 }
 
-/// The chart that the text draws.
-fn draw(text: &[u8]) -> Result<Drawn, Misread>
-    ensures { MatchResult result
-        (λ chart. Reads (done (sheet chart)) blank count_due 1 text.now)
-        (λ e. Reads (refused (number_of e.refusal) e.line) blank count_due 1 text.now) }
+/// Draws on a blank chart what the text says. The chart is lent, since handing it out would copy it
+/// once more for each text.
+fn draw(chart: &mut Drawn, text: &[u8]) -> Result<(), Misread>
+    requires { sheet chart.old ≡ blank }
+    ensures { Reads (told result (sheet chart.new)) blank count_due 1 text.now }
 {
-    let mut chart = Drawn::new();
     let Some(counted) = numbers_line::<1>(text, b"vertices=") else {
         return Err(wrong_line(1));
     };
     let [vertices] = counted.numbers;
-    let rest = draw_vertices(&mut chart, counted.rest, vertices, 2)?;
+    let rest = draw_vertices(chart, counted.rest, vertices, 2)?;
     let line = vertices as usize + 2;
     let Some(counted) = numbers_line::<1>(rest, b"moves=") else {
         return Err(wrong_line(line));
     };
     let [moves] = counted.numbers;
-    let rest = draw_moves(&mut chart, counted.rest, moves, line + 1)?;
+    let rest = draw_moves(chart, counted.rest, moves, line + 1)?;
     if !rest.is_empty() {
         return Err(wrong_line(line + 1 + moves as usize));
     }
-    Ok(chart)
+    Ok(())
 }
 
 fn wrong_line(line: usize) -> Misread

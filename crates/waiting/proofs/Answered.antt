@@ -1,5 +1,5 @@
 -- What the waiting chart answers about a number, by the position that lies there.
-use Rattle.std.specs.Prelude.{◌≡◌, ℕ, zero, suc, ◌<◌, true, [], ◌∷◌, map, length, Some, None, ◌==◌, nat_lt}
+use Rattle.std.specs.Prelude.{◌≡◌, ℕ, zero, suc, ◌<◌, true, false, [], ◌∷◌, map, length, Some, None, ◌==◌, nat_lt}
 use Rattle.std.proofs.Common.{◌≢◌, refl, sym, ap, ◌∙◌, inl, inr, arith}
 use Rattle.std.specs.Bool.{then_some}
 use Rattle.std.specs.Option.{option_map}
@@ -135,13 +135,11 @@ module _ (a : Arena) where
       ap (λ n. Some (record { target = n; cost = 0 })) (is ∙ ap (λ j. place a m.target (arrive l j) (toll m.cost)) (sym same)) ∙ ap (option_map (lifted a l)) e
 
   -- first positions
-  pub first_is : (v k t : ℕ) → Some k ≡ option_map (λ y. y.colour) (vertex_at a v) → t ≡ place a v (arrive 0 k) 0 → then_some (may_be_laid a) t ≡ first_of a v
-  first_is v k t e is =
+  pub first_there : (v k t : ℕ) → may_be_laid a ≡ true → Some k ≡ option_map (λ y. y.colour) (vertex_at a v) → t ≡ place a v (arrive 0 k) 0 → Some t ≡ first_of a v
+  first_there v k t ok e is =
       let known = colour_known v k e in
-      elim (cases_Bool (may_be_laid a)) [
-        | inl ok ↦
-            ap (λ b. then_some b t) ok
-            ∙ ap Some (is ∙ ap (λ j. place a v (arrive 0 j) 0) (sym known.1))
-            ∙ sym (cond-true _ (Some (first a v)) None (and_from (may_be_laid a) _ ok (lt-ltb v (size a) known.0)))
-        | inr un ↦ ap (λ b. then_some b t) un ∙ sym (cond-false _ (Some (first a v)) None (and_left (may_be_laid a) (nat_lt v (size a)) un))
-      ]
+      ap Some (is ∙ ap (λ j. place a v (arrive 0 j) 0) (sym known.1))
+      ∙ sym (cond-true _ (Some (first a v)) None (and_from (may_be_laid a) _ ok (lt-ltb v (size a) known.0)))
+
+  pub first_unlaid : (v : ℕ) → may_be_laid a ≡ false → None ≡ first_of a v
+  first_unlaid v un = sym (cond-false _ (Some (first a v)) None (and_left (may_be_laid a) (nat_lt v (size a)) un))

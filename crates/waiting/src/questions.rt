@@ -82,16 +82,20 @@ pub fn position_number<C: Chart>(chart: &C, position: Position<usize>) -> Option
 }
 
 /// The position at which a voyage from the vertex begins, if there is one.
-#[tactic(auto, using(crate::proofs::Answered::first_is, crate::proofs::Answered::colour_known))]
+#[tactic(auto, using(crate::proofs::Answered::first_unlaid, crate::proofs::Answered::colour_known))]
 pub fn first_position<C: Chart>(chart: &C, vertex: usize) -> Option<usize>
     ensures { result ≡ first_of (C.Chart.meaning chart.now) vertex }
 {
+    let colour = chart.colour(vertex)?;
+    if !may_be_laid(chart) {
+        return None;
+    }
     let first = Position {
         below: vertex,
-        level: arrive(0, chart.colour(vertex)?),
+        level: arrive(0, colour),
         stage: 0,
     };
-    may_be_laid(chart).then_some(place(levels(chart), first))
+    Some(place(levels(chart), first))
 }
 
 /// Who decides at the position: who decides at its vertex.

@@ -16,14 +16,14 @@ pub returns-in_err-rest : goal.returns-in_err-rest
 returns-in_err-rest c =
     let p = err_from_is_err_and c.from_residual.result c.from_residual.ensures.1 in
     let first = vertices_lined c.in-Some.ensures (search rules) in
-    rw (p.1, p.2) (from_vertices _ c.args.text.now _ c.in-Some.counted.rest.now first (sheet c.new-chart.result) c.new-chart.ensures c.in_err-rest.ensures)
+    rw (p.1, p.2) (from_vertices _ c.args.text.now _ c.in-Some.counted.rest.now first (sheet c.args.chart.now) c.requires c.in_err-rest.ensures)
 
 pub returns-in_default-numbers_line : goal.returns-in_default-numbers_line
 returns-in_default-numbers_line c =
     let told = c.wrong_line-in_default-numbers_line.ensures in
     let first = vertices_lined c.in-Some.ensures (search rules) in
     let a = sheet c.draw_vertices.new.chart in
-    from_moves_count _ c.args.text.now _ c.in-Some.counted.rest.now first (sheet c.new-chart.result) c.new-chart.ensures a c.in_ok-rest.rest.now (c.in_ok-rest.ensures _)
+    from_moves_count _ c.args.text.now _ c.in-Some.counted.rest.now first (sheet c.args.chart.now) c.requires a c.in_ok-rest.rest.now (c.in_ok-rest.ensures _)
     (no_moves _ a _ c.in_ok-rest.rest.now c.in_default-numbers_line.ensures (ap₂ refused told.0 told.1))
 
 pub returns-in_err-rest-2 : goal.returns-in_err-rest-2
@@ -32,7 +32,7 @@ returns-in_err-rest-2 c =
     let first = vertices_lined c.in-Some.ensures (search rules) in
     let second = moves_lined c.in-Some-numbers_line.ensures (search rules) in
     let a = sheet c.draw_vertices.new.chart in
-    rw (p.1, p.2) (from_moves _ c.args.text.now _ c.in-Some.counted.rest.now first (sheet c.new-chart.result) c.new-chart.ensures a c.in_ok-rest.rest.now (c.in_ok-rest.ensures _) _ c.in-Some-numbers_line.counted.rest.now second c.in_err-rest-2.ensures)
+    rw (p.1, p.2) (from_moves _ c.args.text.now _ c.in-Some.counted.rest.now first (sheet c.args.chart.now) c.requires a c.in_ok-rest.rest.now (c.in_ok-rest.ensures _) _ c.in-Some-numbers_line.counted.rest.now second c.in_err-rest-2.ensures)
 
 pub returns-then-not-is_empty : goal.returns-then-not-is_empty
 returns-then-not-is_empty c =
@@ -42,7 +42,7 @@ returns-then-not-is_empty c =
     let a = sheet c.draw_vertices.new.chart in
     let rest = c.in_ok-rest-2.rest.now in
     let some : ¬ (rest ≡ []) = λ e. eqb-false (length rest) 0 (sym c.if-not-is_empty.ensures) (ap length e) in
-    from_moves _ c.args.text.now _ c.in-Some.counted.rest.now first (sheet c.new-chart.result) c.new-chart.ensures a c.in_ok-rest.rest.now (c.in_ok-rest.ensures _) _ c.in-Some-numbers_line.counted.rest.now second
+    from_moves _ c.args.text.now _ c.in-Some.counted.rest.now first (sheet c.args.chart.now) c.requires a c.in_ok-rest.rest.now (c.in_ok-rest.ensures _) _ c.in-Some-numbers_line.counted.rest.now second
     (c.in_ok-rest-2.ensures _ (λ low. more_left _ (sheet c.draw_moves.new.chart) _ rest low some (ap₂ refused told.0 told.1)))
 
 pub returns : goal.returns
@@ -52,5 +52,5 @@ returns c =
     let a = sheet c.draw_vertices.new.chart in
     let rest = c.in_ok-rest-2.rest.now in
     let none : rest ≡ [] = nil_from_length rest (eqb-true (length rest) 0 (sym c.if-not-is_empty.ensures)) in
-    from_moves _ c.args.text.now _ c.in-Some.counted.rest.now first (sheet c.new-chart.result) c.new-chart.ensures a c.in_ok-rest.rest.now (c.in_ok-rest.ensures _) _ c.in-Some-numbers_line.counted.rest.now second
+    from_moves _ c.args.text.now _ c.in-Some.counted.rest.now first (sheet c.args.chart.now) c.requires a c.in_ok-rest.rest.now (c.in_ok-rest.ensures _) _ c.in-Some-numbers_line.counted.rest.now second
     (c.in_ok-rest-2.ensures _ (λ low. all_read _ (sheet c.draw_moves.new.chart) _ rest low none refl))
