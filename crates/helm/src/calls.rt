@@ -54,7 +54,7 @@ fn turn_at<C: Chart>(chart: &C, vertex: usize, so_far: Record) -> Turn
 /// Makes a move: the tally's used entries wait through it and arrive, and the
 /// turn is the owner's of the vertex arrived at.
 // This and what calls it are compiled into steer and hear: as calls of their own they hand each turn
-// over through memory, and a move took more than twice as long.
+// over through memory, and a move took about twice as long.
 #[inline(always)]
 fn sail<C: Chart>(chart: &C, tally: &mut [u64], step: Move, so_far: Record) -> Turn
     requires room { half_of (C.Chart.meaning chart.now) ≤ length tally.old }
