@@ -100,6 +100,8 @@ mod tests {
         Ok(())
     }
 
+    /// The contract leaves the choice of moves free; where the lists do not fit in the memory it
+    /// stays as it has been.
     #[test]
     fn more_moves_than_are_noted(rt: HostRuntime) -> Result<(), Fail> {
         let tables = solved(
